@@ -1,0 +1,6 @@
+pub mod Answers
+pub mod Limits
+pub mod Lines
+pub mod Paths
+pub mod Runs
+pub mod Walks

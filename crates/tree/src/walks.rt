@@ -1,0 +1,64 @@
+//! The walk: every line of descent, shown once and in document order, up to the first no.
+ghost use Prim.Native.Nat.{ℕ, _+_, _≤_};
+ghost use Rattle.std.specs.declared.option.Option.the-variants.{None, Some};
+ghost use Rattle.tree.specs.Paths.{SameMemory, capacity-of, names-of};
+ghost use Rattle.tree.specs.Runs.{paths as shown-paths, run};
+ghost use Rattle.tree.specs.Walks.{Walked, first-missing, refusal};
+ghost use mathlib.Core.Bool.{cond, true};
+ghost use mathlib.Core.Path.{_≡_};
+use crate::paths::PathFault;
+use crate::stacks::PathStack;
+use crate::trees::Tree;
+use crate::visitors::Visitor;
+use crate::paths::PathFaultClone;
+use crate::paths::PathFaultDebug;
+use crate::paths::PathFaultPartialEq;
+
+/// How a walk ended: every line shown, or stopped at a no.
+#[derive(Clone, Copy, PartialEq, Eq, Debug)]
+pub enum Outcome {
+    Finished,
+    Stopped,
+}
+
+/// A walk's refusal: the tree's own fault at an unknown name (2), or a path that is too short (9).
+#[derive(Clone, Copy, PartialEq, Eq, Debug)]
+pub enum WalkFault<N, F> {
+    Tree(F),
+    Path(PathFault<N>),
+}
+
+// The fault at the first name that the tree does not know.
+fn first_unknown<T: Tree>(tree: &T, names: &[T::Name]) -> Option<T::Fault>
+    ensures { λ r. ⌜ r ≡ first-missing (known (now (tree .entry))) (missing (now (tree .entry))) (now (names .entry)) ⌝ }
+{
+    for n in names {
+        if let Err(fault) = tree.height(*n) {
+            return Some(fault);
+        }
+    }
+    None
+}
+
+// Shows the lines from a known name, behind the path that leads to it; false after a no.
+fn show<T: Tree, V: Visitor<T>>(tree: &T, n: T::Name, path: &mut PathStack<'_, T::Name>, visitor: &mut V) -> bool
+    requires known { ⌜ known (now tree) n ≡ true ⌝ }
+    requires room { ⌜ now path .len + heights (now tree) n ≤ capacity-of (now path) ⌝ }
+    ensures ran { λ r. ⌜ ((h : ℕ) → heights (now (tree .entry)) n ≤ h → run (λ s q. next s (now (tree .entry)) q) (λ s q. accepts s (now (tree .entry)) q) (now (visitor .entry)) (shown-paths (children (now (tree .entry))) h (names-of (now (path .entry))) n) ≡ (now (visitor .exit), cond r None (Some (names-of (now (path .exit)))))) ⌝ }
+    ensures back { λ r. ⌜ (r ≡ true → names-of (now (path .exit)) ≡ names-of (now (path .entry))) ⌝ }
+    ensures memory { λ _. ⌜ SameMemory (now (path .entry)) (now (path .exit)) ⌝ }
+{
+    path.put(n);
+    if !visitor.visit(tree, path.names()) {
+        return false;
+    }
+    let count = tree.child_count(n).unwrap();
+    for i in 0..count {
+        let child = tree.child(n, i).unwrap();
+        if !show(tree, child, path, visitor) {
+            return false;
+        }
+    }
+    let _ = path.pop();
+    true
+}
