@@ -62,3 +62,43 @@ fn show<T: Tree, V: Visitor<T>>(tree: &T, n: T::Name, path: &mut PathStack<'_, T
     let _ = path.pop();
     true
 }
+
+// The refusal that is due before anything is shown, or the height of the start.
+fn refused<T: Tree>(tree: &T, start: T::Name, path: &PathStack<'_, T::Name>) -> Option<WalkFault<T::Name, T::Fault>>
+    ensures { λ r. ⌜ r ≡ refusal (known (now (tree .entry))) (heights (now (tree .entry))) (missing (now (tree .entry))) start (now (path .entry)) ⌝ }
+{
+    let height = match tree.height(start) {
+        Ok(height) => height,
+        Err(fault) => return Some(WalkFault::Tree(fault)),
+    };
+    if let Some(fault) = first_unknown(tree, path.names()) {
+        return Some(WalkFault::Tree(fault));
+    }
+    if path.len() + height <= path.capacity() {
+        return None;
+    }
+    Some(WalkFault::Path(PathFault { place: start }))
+}
+
+/// Shows the lines of descent from a start, each by the initial path followed by the names along it.
+///
+/// Refused with fault 2 at the start or a name of the initial path that the tree does not know, then with
+/// fault 9 where the path's length and the start's height are over its capacity.
+pub fn walk<T: Tree, V: Visitor<T>>(
+    tree: &T,
+    start: T::Name,
+    path: &mut PathStack<'_, T::Name>,
+    visitor: &mut V,
+) -> Result<Outcome, WalkFault<T::Name, T::Fault>>
+    ensures law { λ r. ⌜ Walked (known (now (tree .entry))) (heights (now (tree .entry))) (children (now (tree .entry))) (missing (now (tree .entry))) (λ s q. next s (now (tree .entry)) q) (λ s q. accepts s (now (tree .entry)) q) start (now (path .entry)) (now (visitor .entry)) r (now (path .exit)) (now (visitor .exit)) ⌝ }
+    ensures memory { λ _. ⌜ SameMemory (now (path .entry)) (now (path .exit)) ⌝ }
+{
+    if let Some(fault) = refused(tree, start, path) {
+        return Err(fault);
+    }
+    if show(tree, start, path, visitor) {
+        Ok(Outcome::Finished)
+    } else {
+        Ok(Outcome::Stopped)
+    }
+}
