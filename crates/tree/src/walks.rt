@@ -3,8 +3,10 @@ ghost use Prim.Native.Nat.{ℕ, _+_, _≤_};
 ghost use Rattle.std.specs.declared.option.Option.the-variants.{None, Some};
 ghost use Rattle.tree.specs.Paths.{SameMemory, capacity-of, names-of};
 ghost use Rattle.tree.specs.Runs.{paths as shown-paths, run};
-ghost use Rattle.tree.specs.Walks.{Walked, first-missing, refusal};
+ghost use Rattle.tree.specs.Walks.{WalkLaw, Walked, first-missing, refusal};
+ghost use Rattle.tree.specs.declared.walks.Outcome.the-variants.{Finished, Stopped};
 ghost use mathlib.Core.Bool.{cond, true};
+ghost use mathlib.Core.List.{List};
 ghost use mathlib.Core.Path.{_≡_};
 use crate::paths::PathFault;
 use crate::stacks::PathStack;
@@ -19,6 +21,19 @@ use crate::paths::PathFaultPartialEq;
 pub enum Outcome {
     Finished,
     Stopped,
+}
+
+impl Outcome {
+    // Finished where all lines were shown and accepted.
+    fn after(all: bool) -> Outcome
+        ensures { λ r. ⌜ r ≡ cond all Finished Stopped ⌝ }
+    {
+        if all {
+            Outcome::Finished
+        } else {
+            Outcome::Stopped
+        }
+    }
 }
 
 /// A walk's refusal: the tree's own fault at an unknown name (2), or a path that is too short (9).
@@ -63,7 +78,18 @@ fn show<T: Tree, V: Visitor<T>>(tree: &T, n: T::Name, path: &mut PathStack<'_, T
     true
 }
 
-// The refusal that is due before anything is shown, or the height of the start.
+// Shows the lines from a known start for which the path has room.
+fn show_lines<T: Tree, V: Visitor<T>>(tree: &T, start: T::Name, path: &mut PathStack<'_, T::Name>, visitor: &mut V) -> Outcome
+    requires known { ⌜ known (now tree) start ≡ true ⌝ }
+    requires room { ⌜ now path .len + heights (now tree) start ≤ capacity-of (now path) ⌝ }
+    ensures law { λ r. ⌜ ((shown : List (List ℕ)) × WalkLaw (children (now (tree .entry))) (λ s q. next s (now (tree .entry)) q) (λ s q. accepts s (now (tree .entry)) q) start (names-of (now (path .entry))) (now (visitor .entry)) r (names-of (now (path .exit))) (now (visitor .exit)) shown) ⌝ }
+    ensures memory { λ _. ⌜ SameMemory (now (path .entry)) (now (path .exit)) ⌝ }
+{
+    let all = show(tree, start, path, visitor);
+    Outcome::after(all)
+}
+
+// The refusal that is due before anything is shown, or none.
 fn refused<T: Tree>(tree: &T, start: T::Name, path: &PathStack<'_, T::Name>) -> Option<WalkFault<T::Name, T::Fault>>
     ensures { λ r. ⌜ r ≡ refusal (known (now (tree .entry))) (heights (now (tree .entry))) (missing (now (tree .entry))) start (now (path .entry)) ⌝ }
 {
@@ -96,9 +122,5 @@ pub fn walk<T: Tree, V: Visitor<T>>(
     if let Some(fault) = refused(tree, start, path) {
         return Err(fault);
     }
-    if show(tree, start, path, visitor) {
-        Ok(Outcome::Finished)
-    } else {
-        Ok(Outcome::Stopped)
-    }
+    Ok(show_lines(tree, start, path, visitor))
 }
