@@ -4,3 +4,4 @@ pub mod Lengths
 pub mod Listed
 pub mod Order
 pub mod Steps
+pub mod Tallied

@@ -1,4 +1,5 @@
 pub mod Answers
+pub mod Counts
 pub mod Limits
 pub mod Lines
 pub mod Paths
