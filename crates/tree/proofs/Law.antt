@@ -77,13 +77,12 @@ module _ {S N : Type 0} (next : S → List N → S) (accepts : S → List N → 
   part-of s (l ∷ ls) = go (accepts s (f l)) refl (part-of (next s (f l)) ls)
     where
       go : (b : Bool) → accepts s (f l) ≡ b → Part (next s (f l)) ls (shown (next s (f l)) ls) (run next accepts (next s (f l)) (map f ls))
-        → Part s (l ∷ ls) (l ∷ cond b (shown (next s (f l)) ls) []) (cond b (run next accepts (next s (f l)) (map f ls)) (next s (f l), Some (f l)))
+          → Part s (l ∷ ls) (l ∷ cond b (shown (next s (f l)) ls) []) (cond b (run next accepts (next s (f l)) (map f ls)) (next s (f l), Some (f l)))
       go true e p = part-yes s l ls _ _ e p
       go false e p = part-no s l ls e
 
 module _ {S N : Type 0} (children : N → List N) (next : S → List N → S) (accepts : S → List N → Bool) (start : N) (initial : List N) (s : S)
-  (ls : List (List ℕ)) (all-lines : AllLines children start ls) (part : List (List ℕ)) (end : S × Option (List N)) (p : Part next accepts (path-of children initial start) s ls part end) where
-
+    (ls : List (List ℕ)) (all-lines : AllLines children start ls) (part : List (List ℕ)) (end : S × Option (List N)) (p : Part next accepts (path-of children initial start) s ls part end) where
   abbrev Yes : List ℕ → Type 0
   Yes line = Accepted children next accepts start initial s part line
 
@@ -108,15 +107,16 @@ module _ {S N : Type 0} (children : N → List N) (next : S → List N → S) (a
   accepted-at k line lt is yes′ = (k, lt, is, ap (λ x. accepts (after next s (map (path-of children initial start) (take k part))) (path-of children initial start x)) (sym is) ∙ yes′)
 
   only-earned : (line : List ℕ) → In part line → Follow children start line × ((m : List ℕ) → Follow children start m → Before m line → Yes m)
-  only-earned line (k, lt, is) =
-      ( subst (Follow children start) is (followed k lt),
-        λ m fm b.
-          let r = all-lines .each m fm in
-          let sooner = stands-before ls (all-lines .once) (r .0) k (r .1) (at-list k lt) (subst (λ x. Before x (getD ls k [])) (sym (r .2)) (subst (Before m) (sym is ∙ p .same k lt) b)) in
-          accepted-at (r .0) m (omega arith) (p .same (r .0) (omega arith) ∙ r .2) (p .went (r .0) (omega arith)) )
+  only-earned line (k, lt, is) = (
+    subst (Follow children start) is (followed k lt),
+    λ m fm b.
+        let r = all-lines .each m fm in
+        let sooner = stands-before ls (all-lines .once) (r .0) k (r .1) (at-list k lt) (subst (λ x. Before x (getD ls k [])) (sym (r .2)) (subst (Before m) (sym is ∙ p .same k lt) b)) in
+        accepted-at (r .0) m (omega arith) (p .same (r .0) (omega arith) ∙ r .2) (p .went (r .0) (omega arith)),
+  )
 
   past-end : (o : Option (List N)) → end .1 ≡ o → (k : ℕ) → length part ≤ k → k < length ls → (line : List ℕ) → getD ls k [] ≡ line
-    → ((m : List ℕ) → Follow children start m → Before m line → Yes m) → ⊥
+      → ((m : List ℕ) → Follow children start m → Before m line → Yes m) → ⊥
   past-end None e k past lt line is earned = omega (arith, p .whole e .0)
   past-end (Some q) e k past lt line is earned =
       let r = p .halted q e in
@@ -142,7 +142,7 @@ module _ {S N : Type 0} (children : N → List N) (next : S → List N → S) (a
       (getD part (r .0) [], (r .0, within, refl), never (r .0) within (r .2), r .3)
 
   law : (outcome : Outcome) (left : List N) → (outcome ≡ Finished → (end .1 ≡ None) × (left ≡ initial)) → (outcome ≡ Stopped → end .1 ≡ Some left)
-    → WalkLaw children next accepts start initial s outcome left (end .0) part
+      → WalkLaw children next accepts start initial s outcome left (end .0) part
   law outcome left finished stopped = record {
     only = only-earned;
     all = all-earned;
@@ -155,8 +155,7 @@ module _ {S N : Type 0} (children : N → List N) (next : S → List N → S) (a
 
 -- the walk law of a walk that ended as a run over the paths of all lines did: r is the recursion's answer
 module _ {S N : Type 0} (children : N → List N) (next : S → List N → S) (accepts : S → List N → Bool) (start : N) (initial left : List N) (s s′ : S)
-  (ls : List (List ℕ)) (all-lines : AllLines children start ls) where
-
+    (ls : List (List ℕ)) (all-lines : AllLines children start ls) where
   finished-when : (r : Bool) → (r ≡ true → left ≡ initial) → cond r Finished Stopped ≡ Finished → (cond {A = Option (List N)} r None (Some left) ≡ None) × (left ≡ initial)
   finished-when true back e = (refl, back refl)
   finished-when false back e = let z : _≡_ {A = ℕ} 0 1 = cc in absurd (omega arith)
@@ -166,10 +165,11 @@ module _ {S N : Type 0} (children : N → List N) (next : S → List N → S) (a
   stopped-when false e = refl
 
   pub walk-law : (r : Bool) → run next accepts s (map (path-of children initial start) ls) ≡ (s′, cond r None (Some left)) → (r ≡ true → left ≡ initial)
-    → (part : List (List ℕ)) × WalkLaw children next accepts start initial s (cond r Finished Stopped) left s′ part
+      → (part : List (List ℕ)) × WalkLaw children next accepts start initial s (cond r Finished Stopped) left s′ part
   walk-law r e back =
       let f = path-of children initial start in
-      let part = shown next accepts f s ls in
-      ( part,
+      let part = shown next accepts f s ls in (
+        part,
         law children next accepts start initial s ls all-lines part (s′, cond r None (Some left)) (subst (Part next accepts f s ls part) e (part-of next accepts f s ls))
-        (cond r Finished Stopped) left (finished-when r back) (stopped-when r) )
+            (cond r Finished Stopped) left (finished-when r back) (stopped-when r),
+      )

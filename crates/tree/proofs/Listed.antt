@@ -45,21 +45,21 @@ mem-unmap [] i m = elim m [ ]
 mem-unmap {a} (l ∷ ls) i m = go (mem-unmap ls i) (List·Memᴰ·cases-cons m)
   where
     go : (List·Memᴰ a (map (λ l′. i ∷ l′) ls) → (l′ : List ℕ) × (a ≡ i ∷ l′) × List·Memᴰ l′ ls) → (a ≡ i ∷ l) ⊎ List·Memᴰ a (map (λ l′. i ∷ l′) ls)
-      → (l′ : List ℕ) × (a ≡ i ∷ l′) × List·Memᴰ l′ (l ∷ ls)
+        → (l′ : List ℕ) × (a ≡ i ∷ l′) × List·Memᴰ l′ (l ∷ ls)
     go rest (inl e) = (l, e, List·Memᴰ·head refl)
     go rest (inr m′) = let r = rest m′ in (r .0, r .1, List·Memᴰ·tail (r .2))
 
 module _ {N : Type 0} (f : N → List (List ℕ)) (xs : List N) (d : N) where
   -- a line through a child begins with the child's number
   through : (i : ℕ) (cs : List N) → drop i xs ≡ cs → (line : List ℕ) → List·Memᴰ line (branches f i cs)
-    → (j : ℕ) × (l : List ℕ) × (line ≡ j ∷ l) × (i ≤ j) × (j < length xs) × List·Memᴰ l (f (getD xs j d))
+      → (j : ℕ) × (l : List ℕ) × (line ≡ j ∷ l) × (i ≤ j) × (j < length xs) × List·Memᴰ l (f (getD xs j d))
   through i [] e line m = elim m [ ]
   through i (c ∷ cs) e line m = go (dropped xs i c cs d e) (through (suc i) cs) (List·Memᴰ·append-cases (map (λ l. i ∷ l) (f c)) m)
     where
       go : (getD xs i d ≡ c) × (drop (suc i) xs ≡ cs) × (i < length xs)
-        → (drop (suc i) xs ≡ cs → (line′ : List ℕ) → List·Memᴰ line′ (branches f (suc i) cs) → (j : ℕ) × (l : List ℕ) × (line′ ≡ j ∷ l) × (suc i ≤ j) × (j < length xs) × List·Memᴰ l (f (getD xs j d)))
-        → List·Memᴰ line (map (λ l. i ∷ l) (f c)) ⊎ List·Memᴰ line (branches f (suc i) cs)
-        → (j : ℕ) × (l : List ℕ) × (line ≡ j ∷ l) × (i ≤ j) × (j < length xs) × List·Memᴰ l (f (getD xs j d))
+          → (drop (suc i) xs ≡ cs → (line′ : List ℕ) → List·Memᴰ line′ (branches f (suc i) cs) → (j : ℕ) × (l : List ℕ) × (line′ ≡ j ∷ l) × (suc i ≤ j) × (j < length xs) × List·Memᴰ l (f (getD xs j d)))
+          → List·Memᴰ line (map (λ l. i ∷ l) (f c)) ⊎ List·Memᴰ line (branches f (suc i) cs)
+          → (j : ℕ) × (l : List ℕ) × (line ≡ j ∷ l) × (i ≤ j) × (j < length xs) × List·Memᴰ l (f (getD xs j d))
       go (is, rest, within) later (inl here) = let r = mem-unmap (f c) i here in (i, r .0, r .1, omega arith, within, subst (λ x. List·Memᴰ (r .0) (f x)) (sym is) (r .2))
       go (is, rest, within) later (inr there) = let r = later rest line there in (r .0, r .1, r .2, omega (arith, r .3), r .4, r .5)
 
@@ -69,16 +69,17 @@ module _ {N : Type 0} (f : N → List (List ℕ)) (xs : List N) (d : N) where
   among i (c ∷ cs) e j l low within m = go (dropped xs i c cs d e) (λ e′ low′. among (suc i) cs e′ j l low′ within m) (cases-order i j)
     where
       go : (getD xs i d ≡ c) × (drop (suc i) xs ≡ cs) × (i < length xs) → (drop (suc i) xs ≡ cs → suc i ≤ j → List·Memᴰ (j ∷ l) (branches f (suc i) cs))
-        → (i ≡ j) ⊎ ((i < j) ⊎ (j < i)) → List·Memᴰ (j ∷ l) (map (λ l′. i ∷ l′) (f c) ++ branches f (suc i) cs)
+          → (i ≡ j) ⊎ ((i < j) ⊎ (j < i)) → List·Memᴰ (j ∷ l) (map (λ l′. i ∷ l′) (f c) ++ branches f (suc i) cs)
       go (is, rest, _) later (inl e′) = Memᴰ·append-left _ (subst (λ x. List·Memᴰ (x ∷ l) (map (λ l′. i ∷ l′) (f c))) e′ (mem-map i (subst (λ x. List·Memᴰ l (f x)) (ap (λ x. getD xs x d) (sym e′) ∙ is) m)))
       go (is, rest, _) later (inr (inl lt)) = Memᴰ·append-right (map (λ l′. i ∷ l′) (f c)) (later rest lt)
       go (is, rest, _) later (inr (inr gt)) = absurd (omega arith)
 
   sorted-map : (i : ℕ) (ls : List (List ℕ)) → Sorted ls → Sorted (map (λ l. i ∷ l) ls)
   sorted-map i [] s = tt
-  sorted-map i (l ∷ ls) s =
-      ( λ m mem. let r = mem-unmap ls i mem in subst (λ x. Before (i ∷ l) x) (sym (r .1)) (inr (refl, s .0 (r .0) (r .2))),
-        sorted-map i ls (s .1) )
+  sorted-map i (l ∷ ls) s = (
+    λ m mem. let r = mem-unmap ls i mem in subst (λ x. Before (i ∷ l) x) (sym (r .1)) (inr (refl, s .0 (r .0) (r .2))),
+    sorted-map i ls (s .1),
+  )
 
   sorted-branches : ((c : N) → Sorted (f c)) → (i : ℕ) (cs : List N) → drop i xs ≡ cs → Sorted (branches f i cs)
   sorted-branches each i [] e = tt
@@ -86,16 +87,17 @@ module _ {N : Type 0} (f : N → List (List ℕ)) (xs : List N) (d : N) where
       let rest = dropped xs i c cs d e .1 in
       sorted-append (map (λ l. i ∷ l) (f c)) (branches f (suc i) cs) (sorted-map i (f c) (each c)) (sorted-branches each (suc i) cs rest)
       (λ l m ml mm.
-        let a = mem-unmap (f c) i ml in
-        let b = through (suc i) cs rest m mm in
-        subst (λ x. Before x m) (sym (a .1)) (subst (λ x. Before (i ∷ a .0) x) (sym (b .2)) (inl (b .3))))
+      let a = mem-unmap (f c) i ml in
+      let b = through (suc i) cs rest m mm in
+      subst (λ x. Before x m) (sym (a .1)) (subst (λ x. Before (i ∷ a .0) x) (sym (b .2)) (inl (b .3))))
 
 module _ {N : Type 0} (children : N → List N) where
   sorted-lines : (h : ℕ) (n : N) → Sorted (lines children h n)
   sorted-lines zero n = tt
-  sorted-lines (suc h) n =
-      ( λ m mem. let r = through (lines children h) (children n) n 0 (children n) refl m mem in subst (Before []) (sym (r .2)) tt,
-        sorted-branches (lines children h) (children n) n (sorted-lines h) 0 (children n) refl )
+  sorted-lines (suc h) n = (
+    λ m mem. let r = through (lines children h) (children n) n 0 (children n) refl m mem in subst (Before []) (sym (r .2)) tt,
+    sorted-branches (lines children h) (children n) n (sorted-lines h) 0 (children n) refl,
+  )
 
   -- each of them can be followed,
   lines-follow : (h : ℕ) (n : N) (line : List ℕ) → List·Memᴰ line (lines children h n) → Follow children n line
@@ -124,8 +126,8 @@ module _ {N : Type 0} (children : N → List N) where
 
   -- the paths that the recursion shows are the paths of these lines
   paths-branches : (h i : ℕ) (n : N) (p : List N) (cs : List N) → drop i (children n) ≡ cs
-    → ((c : N) → paths children h (p ++ n ∷ []) c ≡ map (path-of children (p ++ n ∷ []) c) (lines children h c))
-    → joined (paths children h (p ++ n ∷ [])) cs ≡ map (path-of children p n) (branches (lines children h) i cs)
+      → ((c : N) → paths children h (p ++ n ∷ []) c ≡ map (path-of children (p ++ n ∷ []) c) (lines children h c))
+      → joined (paths children h (p ++ n ∷ [])) cs ≡ map (path-of children p n) (branches (lines children h) i cs)
   paths-branches h i n p [] e each = refl
   paths-branches h i n p (c ∷ cs) e each =
       let r = dropped (children n) i c cs n e in

@@ -63,6 +63,7 @@ ascending-from-sorted (l ∷ ls) s (suc i) (suc j) lt within = ascending-from-so
 
 pub sorted-append : (ls ms : List (List ℕ)) → Sorted ls → Sorted ms → ((l m : List ℕ) → List·Memᴰ l ls → List·Memᴰ m ms → Before l m) → Sorted (ls ++ ms)
 sorted-append [] ms sl sm across = sm
-sorted-append (l ∷ ls) ms sl sm across =
-    ( λ m mem. ⊎-elim (λ x. sl .0 m x) (λ y. across l m (List·Memᴰ·head refl) y) (List·Memᴰ·append-cases ls mem),
-      sorted-append ls ms (sl .1) sm (λ a b ma mb. across a b (List·Memᴰ·tail ma) mb) )
+sorted-append (l ∷ ls) ms sl sm across = (
+  λ m mem. ⊎-elim (λ x. sl .0 m x) (λ y. across l m (List·Memᴰ·head refl) y) (List·Memᴰ·append-cases ls mem),
+  sorted-append ls ms (sl .1) sm (λ a b ma mb. across a b (List·Memᴰ·tail ma) mb),
+)

@@ -16,7 +16,7 @@ returns g c =
     let initial = names-of (c .args .path .now) in
     let ran = ap (run (λ s q. g .V·Visitor .next s tree q) (λ s q. g .V·Visitor .accepts s tree q) (c .args .visitor .now)) (sym (paths-are children 64 start initial)) ∙ c .show-all .ensures .ran 64 high in
     let w = walk-law children (λ s q. g .V·Visitor .next s tree q) (λ s q. g .V·Visitor .accepts s tree q) start initial (names-of (c .show-all .last .path)) (c .args .visitor .now) (c .show-all .last .visitor)
-      (lines children 64 start) (listed children law 64 start (c .pre .known) high) (c .show-all .result) ran (c .show-all .ensures .back) in
+    (lines children 64 start) (listed children law 64 start (c .pre .known) high) (c .show-all .result) ran (c .show-all .ensures .back) in
     record {
       law = (w .0, rw (c .after .ensures) (w .1));
       memory = c .show-all .ensures .memory;
