@@ -1,0 +1,87 @@
+//! Positions in a script: a line and a column, or none.
+ghost use Prim.Native.Nat.{_≤_};
+ghost use Rattle.node.specs.Positions.{in-place, in-place-span, placed, placed-span};
+ghost use lib.Dec.{T};
+ghost use mathlib.Core.Bool.{Bool, true};
+ghost use mathlib.Core.Path.{_≡_};
+
+/// A line and a column. Line 0 stands only in 0:0, which is no position.
+#[derive(Clone, Copy, PartialEq, Eq, Debug)]
+pub struct Position {
+    line: u16,
+    pos: u16,
+}
+
+/// Where something begins and where it ends.
+#[derive(Clone, Copy, PartialEq, Eq, Debug)]
+pub struct Span {
+    start: Position,
+    end: Position,
+}
+
+/// A line and a column as they are handed in: any numbers.
+#[derive(Clone, Copy, PartialEq, Eq, Debug)]
+pub struct RawPosition {
+    pub line: u32,
+    pub column: u32,
+}
+
+/// Two positions as they are handed in.
+#[derive(Clone, Copy, PartialEq, Eq, Debug)]
+pub struct RawSpan {
+    pub start: RawPosition,
+    pub end: RawPosition,
+}
+
+/// What is handed in as plain numbers, which may be out of range.
+pub trait Ranged {
+    ghost ranged: { Self → Bool };
+
+    /// Whether the numbers are in range.
+    fn in_range(self) -> bool
+        ensures { λ r. ⌜ r ≡ ranged self ⌝ };
+}
+
+/// Both numbers are at most 65,535, and line 0 stands in 0:0 alone.
+pub impl Ranged for RawPosition as RawPositionRanged {
+    ghost ranged = { in-place };
+
+    fn in_range(self) -> bool {
+        self.line <= 65535 && self.column <= 65535 && (self.line != 0 || self.column == 0)
+    }
+}
+
+/// Both positions are in range.
+pub impl Ranged for RawSpan as RawSpanRanged {
+    ghost ranged = { in-place-span };
+
+    fn in_range(self) -> bool {
+        self.start.in_range() && self.end.in_range()
+    }
+}
+
+impl RawPosition {
+    // The position of numbers in range.
+    pub(crate) fn typed(self) -> Position
+        requires { ⌜ in-place self ≡ true ⌝ }
+        ensures { λ r. ⌜ r ≡ placed self ⌝ }
+    {
+        Position {
+            line: self.line as u16,
+            pos: self.column as u16,
+        }
+    }
+}
+
+impl RawSpan {
+    // The span of positions in range.
+    pub(crate) fn typed(self) -> Span
+        requires { ⌜ in-place-span self ≡ true ⌝ }
+        ensures { λ r. ⌜ r ≡ placed-span self ⌝ }
+    {
+        Span {
+            start: self.start.typed(),
+            end: self.end.typed(),
+        }
+    }
+}
