@@ -9,8 +9,8 @@ use crate::kinds::StmtKind;
 use crate::positions::Ranged;
 use crate::positions::RawPosition;
 use crate::positions::RawPositionRanged;
-use crate::positions::RawSpanRanged;
 use crate::positions::RawSpan;
+use crate::positions::RawSpanRanged;
 
 /// A kind by its number within its enum.
 #[derive(Clone, Copy)]
@@ -100,7 +100,10 @@ pub impl Ranged for RawConstant as RawConstantRanged {
         match self {
             RawConstant::Bool(b) => b <= 1,
             RawConstant::Char(c) => c < 0xD800 || (0xE000 <= c && c <= 0x10_FFFF),
-            RawConstant::Stored(_) | RawConstant::Integer(_) | RawConstant::Float(_) | RawConstant::Text(_) => true,
+            RawConstant::Stored(_)
+            | RawConstant::Integer(_)
+            | RawConstant::Float(_)
+            | RawConstant::Text(_) => true,
         }
     }
 }
@@ -146,7 +149,11 @@ pub impl Lying for RawConstant as RawConstantLying {
     fn within(self, text: usize) -> bool {
         match self {
             RawConstant::Text(run) => run.within(text),
-            RawConstant::Stored(_) | RawConstant::Bool(_) | RawConstant::Integer(_) | RawConstant::Float(_) | RawConstant::Char(_) => true,
+            RawConstant::Stored(_)
+            | RawConstant::Bool(_)
+            | RawConstant::Integer(_)
+            | RawConstant::Float(_)
+            | RawConstant::Char(_) => true,
         }
     }
 }

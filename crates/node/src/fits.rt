@@ -119,7 +119,9 @@ impl Names {
             Names::Plain => without_position(first) && second.is_none() && local,
             Names::Call => without_position(first) && second.is_none(),
             Names::One => with_position(first) && second.is_none() && local,
-            Names::Counter => with_position(first) && (second.is_none() || with_position(second)) && local,
+            Names::Counter => with_position(first)
+                && (second.is_none() || with_position(second))
+                && local,
             Names::Two => with_position(first) && with_position(second) && local,
         }
     }

@@ -33,6 +33,19 @@ pub struct RawSpan {
     pub end: RawPosition,
 }
 
+impl Position {
+    /// No position.
+    pub const NONE: Position = Position { line: 0, pos: 0 };
+}
+
+impl Span {
+    /// Neither begin nor end.
+    pub const NONE: Span = Span {
+        start: Position { line: 0, pos: 0 },
+        end: Position { line: 0, pos: 0 },
+    };
+}
+
 /// What is handed in as plain numbers, which may be out of range.
 pub trait Ranged {
     ghost ranged: { Self → Bool };
