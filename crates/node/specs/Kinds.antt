@@ -2,10 +2,6 @@
 use mathlib.Core.List.{List, [], _∷_}
 use Prim.Native.Nat.{ℕ}
 use lib.ListN.{getD}
-use Rattle.node.specs.declared.drafts.RawKind.{RawKind}
-use Rattle.node.specs.declared.drafts.RawKind.the-variants as raw
-use Rattle.node.specs.declared.kinds.Kind.{Kind}
-use Rattle.node.specs.declared.kinds.Kind.the-variants.{Stmt, Expr}
 use Rattle.node.specs.declared.kinds.StmtKind.{StmtKind}
 use Rattle.node.specs.declared.kinds.StmtKind.the-variants as stmt
 use Rattle.node.specs.declared.kinds.ExprKind.{ExprKind}
@@ -71,8 +67,3 @@ exprs =
 
 abbrev pub expr-at : ℕ → ExprKind
 expr-at n = getD exprs n expr.Unit
-
--- the kind that a number within an enum names
-abbrev pub kind-of : RawKind → Kind
-kind-of (raw.Stmt n) = Stmt (stmt-at n)
-kind-of (raw.Expr n) = Expr (expr-at n)

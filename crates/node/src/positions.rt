@@ -1,8 +1,7 @@
 //! Positions in a script: a line and a column, or none.
-ghost use Prim.Native.Nat.{_≤_};
 ghost use Rattle.node.specs.Positions.{in-place, in-place-span, placed, placed-span};
-ghost use lib.Dec.{T};
-ghost use mathlib.Core.Bool.{Bool, true};
+ghost use Rattle.std.specs.declared.option.Option.the-variants.{None, Some};
+ghost use mathlib.Core.Bool.{Bool, cond};
 ghost use mathlib.Core.Path.{_≡_};
 
 /// A line and a column. Line 0 stands only in 0:0, which is no position.
@@ -74,27 +73,28 @@ pub impl Ranged for RawSpan as RawSpanRanged {
 }
 
 impl RawPosition {
-    // The position of numbers in range.
-    pub(crate) fn typed(self) -> Position
-        requires { ⌜ in-place self ≡ true ⌝ }
-        ensures { λ r. ⌜ r ≡ placed self ⌝ }
+    /// The position of numbers in range; none where they are out of it.
+    pub fn position(self) -> Option<Position>
+        ensures { λ r. ⌜ r ≡ cond (in-place self) (Some (placed self)) None ⌝ }
     {
-        Position {
-            line: self.line as u16,
-            pos: self.column as u16,
+        if self.in_range() {
+            Some(Position {
+                line: self.line as u16,
+                pos: self.column as u16,
+            })
+        } else {
+            None
         }
     }
 }
 
 impl RawSpan {
-    // The span of positions in range.
-    pub(crate) fn typed(self) -> Span
-        requires { ⌜ in-place-span self ≡ true ⌝ }
-        ensures { λ r. ⌜ r ≡ placed-span self ⌝ }
+    /// The span of positions in range; none where one is out of it.
+    pub fn span(self) -> Option<Span>
+        ensures { λ r. ⌜ r ≡ cond (in-place-span self) (Some (placed-span self)) None ⌝ }
     {
-        Span {
-            start: self.start.typed(),
-            end: self.end.typed(),
-        }
+        let start = self.start.position()?;
+        let end = self.end.position()?;
+        Some(Span { start, end })
     }
 }

@@ -1,7 +1,7 @@
 use mathlib.Core.Path.{_≡_}
 use lib.ListN.{drop}
-use Rattle.node.specs.Lists.{all}
-use Rattle.node.proofs.lists.every.Given as given
+use Rattle.draft.specs.Lists.{all}
+use Rattle.draft.proofs.lists.every.Given as given
 
 -- the elements passed all pass
 abbrev pub Inv-loop-x : given.InvT-loop-x

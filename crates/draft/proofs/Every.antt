@@ -5,7 +5,7 @@ use mathlib.Core.Path.{_≡_, sym, ap, _∙_}
 use Prim.Native.Nat.{ℕ, _+_, _<_, _≤_}
 use lib.ListN.{length, getD, drop}
 use Rattle.std.proofs.shelf.Lists.{at-drop-more, at-drop-all}
-use Rattle.node.specs.Lists.{all}
+use Rattle.draft.specs.Lists.{all}
 
 module _ {X : Type 0} (test : X → Bool) (xs : List X) (i : ℕ) (x : X) (within : i < length xs) (read : x ≡ getD xs i x) where
   step : all test (drop i xs) ≡ (test x && all test (drop (i + 1) xs))

@@ -1,5 +1,5 @@
-use Rattle.node.proofs.Conjuncts.{in-range-parts, within-parts, small-parts}
-use Rattle.node.proofs.drafts.Draft.typed.Needs as need
+use Rattle.draft.proofs.Conjuncts.{in-range-parts, within-parts, small-parts}
+use Rattle.draft.proofs.drafts.Draft.typed.Needs as need
 
 pub payload-typed-requires : need.payload-typed-requires
 payload-typed-requires c κs =

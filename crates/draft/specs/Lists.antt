@@ -2,7 +2,7 @@
 use mathlib.Core.Bool.{Bool, true, _&&_}
 use mathlib.Core.List.{List, [], _∷_}
 use Rattle.std.specs.Options.{isSome}
-use Rattle.node.specs.declared.drafts.RawIdent.{RawIdent}
+use Rattle.draft.specs.declared.drafts.RawIdent.{RawIdent}
 
 -- every element passes the test
 abbrev pub all : {X : Type 0} → (X → Bool) → List X → Bool

@@ -4,10 +4,10 @@ use mathlib.Core.Path.{_≡_}
 use Prim.Native.Nat.{ℕ}
 use lib.Dec.{ltb}
 use Rattle.std.proofs.shelf.Tests.{and-parts}
-use Rattle.node.specs.Details.{small, small-constant}
-use Rattle.node.specs.Drafts.{in-range, runs-within, if-given, kind-in-range, flags-in-range, constant-in-range, ident-in-range, constant-within, ident-within}
+use Rattle.draft.specs.Details.{small, small-constant}
+use Rattle.draft.specs.Drafts.{in-range, runs-within, if-given, kind-in-range, flags-in-range, constant-in-range, ident-in-range, constant-within, ident-within}
 use Rattle.node.specs.Positions.{in-place, in-place-span}
-use Rattle.node.specs.declared.drafts.Draft.{Draft}
+use Rattle.draft.specs.declared.drafts.Draft.{Draft}
 
 pub record InRange (d : Draft) : Type 0 where
   pub kind : kind-in-range (d .kind) ≡ true

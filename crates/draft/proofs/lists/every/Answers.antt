@@ -1,6 +1,6 @@
 use mathlib.Core.Path.{sym, _∙_}
-use Rattle.node.proofs.Every.{all-passes, all-fails, all-done}
-use Rattle.node.proofs.lists.every.Needs as need
+use Rattle.draft.proofs.Every.{all-passes, all-fails, all-done}
+use Rattle.draft.proofs.lists.every.Needs as need
 
 pub returns-then-not-test : need.returns-then-not-test
 returns-then-not-test g c =

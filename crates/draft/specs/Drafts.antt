@@ -6,15 +6,15 @@ use Prim.Native.Nat.{ℕ, _+_}
 use lib.Dec.{leb, ltb}
 use Rattle.std.specs.declared.option.Option.{Option}
 use Rattle.std.specs.declared.option.Option.the-variants.{Some, None}
 use Rattle.node.specs.Positions.{in-place, in-place-span}
-use Rattle.node.specs.declared.drafts.Draft.{Draft}
-use Rattle.node.specs.declared.drafts.RawConstant.{RawConstant}
-use Rattle.node.specs.declared.drafts.RawConstant.the-variants as raw
-use Rattle.node.specs.declared.drafts.RawFlags.{RawFlags}
-use Rattle.node.specs.declared.drafts.RawIdent.{RawIdent}
-use Rattle.node.specs.declared.drafts.RawKind.{RawKind}
-use Rattle.node.specs.declared.drafts.RawKind.the-variants.{Stmt, Expr}
-use Rattle.node.specs.declared.drafts.RawRun.{RawRun}
+use Rattle.draft.specs.declared.drafts.Draft.{Draft}
+use Rattle.draft.specs.declared.drafts.RawConstant.{RawConstant}
+use Rattle.draft.specs.declared.drafts.RawConstant.the-variants as raw
+use Rattle.draft.specs.declared.drafts.RawFlags.{RawFlags}
+use Rattle.draft.specs.declared.drafts.RawIdent.{RawIdent}
+use Rattle.draft.specs.declared.drafts.RawKind.{RawKind}
+use Rattle.draft.specs.declared.drafts.RawKind.the-variants.{Stmt, Expr}
+use Rattle.draft.specs.declared.drafts.RawRun.{RawRun}
 
 -- what holds of a datum where it is given
 abbrev pub if-given : {A : Type 0} → (A → Bool) → Option A → Bool

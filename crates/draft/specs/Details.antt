@@ -5,29 +5,38 @@ use lib.Dec.{eqb, ltb}
 use Rattle.std.specs.Options.{mapped}
 use Rattle.std.specs.declared.option.Option.{Option}
 use Rattle.std.specs.declared.option.Option.the-variants.{Some, None}
-use Rattle.node.specs.Drafts.{if-given}
-use Rattle.node.specs.Kinds.{kind-of}
+use Rattle.draft.specs.Drafts.{if-given}
+use Rattle.node.specs.Kinds.{stmt-at, expr-at}
 use Rattle.node.specs.Positions.{none, placed, placed-span}
-use Rattle.node.specs.declared.drafts.Draft.{Draft}
-use Rattle.node.specs.declared.drafts.RawConstant.{RawConstant}
-use Rattle.node.specs.declared.drafts.RawConstant.the-variants as raw
-use Rattle.node.specs.declared.drafts.RawFlags.{RawFlags}
-use Rattle.node.specs.declared.drafts.RawIdent.{RawIdent}
-use Rattle.node.specs.declared.drafts.RawRun.{RawRun}
+use Rattle.draft.specs.declared.drafts.Draft.{Draft}
+use Rattle.draft.specs.declared.drafts.RawConstant.{RawConstant}
+use Rattle.draft.specs.declared.drafts.RawConstant.the-variants as raw
+use Rattle.draft.specs.declared.drafts.RawFlags.{RawFlags}
+use Rattle.draft.specs.declared.drafts.RawIdent.{RawIdent}
+use Rattle.draft.specs.declared.drafts.RawKind.{RawKind}
+use Rattle.draft.specs.declared.drafts.RawKind.the-variants as raw-kind
+use Rattle.draft.specs.declared.drafts.RawRun.{RawRun}
 use Rattle.node.specs.declared.flags.ASTFlags.{ASTFlags}
+use Rattle.node.specs.declared.kinds.Kind.{Kind}
+use Rattle.node.specs.declared.kinds.Kind.the-variants as kind
 use Rattle.node.specs.declared.positions.Position.{Position}
 use Rattle.node.specs.declared.positions.RawPosition.{RawPosition}
 use Rattle.node.specs.declared.positions.RawSpan.{RawSpan}
 use Rattle.node.specs.declared.positions.Span.{Span}
 use Rattle.node.specs.declared.records.Constant.{Constant}
 use Rattle.node.specs.declared.records.Constant.the-variants as constant
 use Rattle.node.specs.declared.records.Details.{Details}
 use Rattle.node.specs.declared.records.Ident.{Ident}
 use Rattle.node.specs.declared.records.Payload.{Payload}
 use Rattle.node.specs.declared.records.Payload.the-variants as payload
 use Rattle.node.specs.declared.records.Run.{Run}
 use Rattle.node.specs.declared.records.Second.{Second}
 use Rattle.node.specs.declared.records.Second.the-variants as second
+
+-- the kind that a number within an enum names
+abbrev pub kind-of : RawKind → Kind
+kind-of (raw-kind.Stmt n) = kind.Stmt (stmt-at n)
+kind-of (raw-kind.Expr n) = kind.Expr (expr-at n)
 
 abbrev pub run-of : RawRun → Run
 run-of r = record { start = r .start; len = r .len }

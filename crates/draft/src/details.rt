@@ -1,9 +1,8 @@
 //! From the plain numbers of a draft to what is kept of it.
 ghost use Prim.Native.Nat.{_<_, _≤_};
-ghost use Rattle.node.specs.Details.{constant-of, details-of, flags-of, ident-of, payload-of, position-of, run-of, second-of, small, small-constant, span-of, spans-of};
-ghost use Rattle.node.specs.Drafts.{constant-in-range, constant-within, flags-in-range, ident-in-range, ident-within, if-given, in-range, kind-in-range, run-within, runs-within};
-ghost use Rattle.node.specs.Kinds.{kind-of};
+ghost use Rattle.draft.specs.Details.{constant-of, details-of, flags-of, ident-of, kind-of, payload-of, position-of, run-of, second-of, small, small-constant, span-of, spans-of};
+ghost use Rattle.draft.specs.Drafts.{constant-in-range, constant-within, flags-in-range, ident-in-range, ident-within, if-given, in-range, kind-in-range, run-within, runs-within};
 ghost use Rattle.node.specs.Positions.{in-place, in-place-span};
 ghost use Rattle.std.specs.Options.{mapped};
 ghost use lib.Dec.{ltb};
 ghost use Rattle.std.specs.declared.option.Option.the-variants.{None, Some};
@@ -18,21 +17,21 @@ use crate::drafts::RawIdentLying;
 use crate::drafts::RawIdentRanged;
 use crate::drafts::RawKind;
 use crate::drafts::RawRun;
-use crate::flags::ASTFlags;
-use crate::kinds::ExprKind;
-use crate::kinds::Kind;
-use crate::kinds::StmtKind;
-use crate::positions::Position;
-use crate::positions::Ranged;
-use crate::positions::RawPosition;
-use crate::positions::RawSpan;
-use crate::positions::Span;
-use crate::records::Constant;
-use crate::records::Details;
-use crate::records::Ident;
-use crate::records::Payload;
-use crate::records::Run;
-use crate::records::Second;
+use node::flags::ASTFlags;
+use node::kinds::ExprKind;
+use node::kinds::Kind;
+use node::kinds::StmtKind;
+use node::positions::Position;
+use node::positions::Ranged;
+use node::positions::RawPosition;
+use node::positions::RawSpan;
+use node::positions::Span;
+use node::records::Constant;
+use node::records::Details;
+use node::records::Ident;
+use node::records::Payload;
+use node::records::Run;
+use node::records::Second;
 
 impl RawKind {
     /// The kind of a number in range.
@@ -64,7 +63,7 @@ fn position_typed(given: Option<RawPosition>) -> Position
     ensures { λ r. ⌜ r ≡ position-of given ⌝ }
 {
     match given {
-        Some(position) => position.typed(),
+        Some(position) => position.position().unwrap(),
         None => Position::NONE,
     }
 }
@@ -98,8 +97,8 @@ fn flags_typed(given: Option<RawFlags>) -> ASTFlags
     ensures { λ r. ⌜ r ≡ flags-of given ⌝ }
 {
     match given {
-        Some(flags) => ASTFlags::of(flags.bits as u8),
-        None => ASTFlags::of(0),
+        Some(flags) => ASTFlags::from_bits(flags.bits).unwrap(),
+        None => ASTFlags::NONE,
     }
 }
 
@@ -152,7 +151,7 @@ fn spans_typed(body: Option<RawSpan>, branch: Option<RawSpan>) -> Payload
     ensures { λ r. ⌜ r ≡ spans-of body branch ⌝ }
 {
     match body {
-        Some(body) => Payload::Spans(body.typed(), span_typed(branch)),
+        Some(body) => Payload::Spans(body.span().unwrap(), span_typed(branch)),
         None => Payload::Nothing,
     }
 }
@@ -162,7 +161,7 @@ fn span_typed(given: Option<RawSpan>) -> Span
     ensures { λ r. ⌜ r ≡ span-of given ⌝ }
 {
     match given {
-        Some(span) => span.typed(),
+        Some(span) => span.span().unwrap(),
         None => Span::NONE,
     }
 }
@@ -193,7 +192,7 @@ fn second_typed(
         return Second::Name(ident.typed());
     }
     if let Some(position) = namespace {
-        return Second::Namespace(position.typed());
+        return Second::Namespace(position.position().unwrap());
     }
     match default {
         Some(arm) => Second::Default(arm as u16),

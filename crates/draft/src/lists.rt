@@ -1,6 +1,6 @@
 //! Tests on every element of a list that is handed in.
-ghost use Rattle.node.specs.Drafts.{ident-in-range, ident-within};
-ghost use Rattle.node.specs.Lists.{all, has-position};
+ghost use Rattle.draft.specs.Drafts.{ident-in-range, ident-within};
+ghost use Rattle.draft.specs.Lists.{all, has-position};
 ghost use lib.Dec.{ltb};
 ghost use mathlib.Core.Bool.{Bool};
 ghost use mathlib.Core.Path.{_≡_};
@@ -8,7 +8,7 @@ use crate::drafts::Lying;
 use crate::drafts::RawIdent;
 use crate::drafts::RawIdentLying;
 use crate::drafts::RawIdentRanged;
-use crate::positions::Ranged;
+use node::positions::Ranged;
 
 /// A test of one element.
 pub trait Test<X> {

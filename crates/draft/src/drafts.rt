@@ -1,16 +1,16 @@
 //! What a put is handed: plain numbers throughout, so that each out of range is a refusal.
-ghost use Rattle.node.specs.Drafts.{constant-in-range, constant-within, flags-in-range, ident-in-range, ident-within, if-given, in-range, kind-in-range, run-within, runs-within};
+ghost use Rattle.draft.specs.Drafts.{constant-in-range, constant-within, flags-in-range, ident-in-range, ident-within, if-given, in-range, kind-in-range, run-within, runs-within};
 ghost use Rattle.node.specs.Positions.{in-place, in-place-span};
 ghost use Prim.Native.Nat.{ℕ};
 ghost use mathlib.Core.Bool.{Bool, true};
 ghost use mathlib.Core.Path.{_≡_};
-use crate::kinds::ExprKind;
-use crate::kinds::StmtKind;
-use crate::positions::Ranged;
-use crate::positions::RawPosition;
-use crate::positions::RawPositionRanged;
-use crate::positions::RawSpan;
-use crate::positions::RawSpanRanged;
+use node::kinds::ExprKind;
+use node::kinds::StmtKind;
+use node::positions::Ranged;
+use node::positions::RawPosition;
+use node::positions::RawPositionRanged;
+use node::positions::RawSpan;
+use node::positions::RawSpanRanged;
 
 /// A kind by its number within its enum.
 #[derive(Clone, Copy)]
