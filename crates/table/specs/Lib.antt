@@ -1,0 +1,4 @@
+pub mod State
+pub mod Finds
+pub mod Facts
+pub mod Trees

@@ -1,0 +1,126 @@
+//! Where a node's children stand among its links.
+ghost use Prim.Native.Nat.{ℕ, _+_, _<_, _≤_};
+ghost use Rattle.node.specs.Shapes.{shape-of};
+ghost use Rattle.table.specs.Finds.{child-count, run-count, run-from};
+ghost use Rattle.table.specs.State.{arms-from, default-of, kids, link-at, node-at, referred, references, state-of, total, walked};
+ghost use lib.ListN.{getD, length};
+ghost use mathlib.Core.List.{_++_};
+ghost use mathlib.Core.Path.{_≡_};
+use crate::memory::Memory;
+use node::records::Node;
+use node::records::Parts;
+use node::records::Second;
+use node::shapes::Blocks;
+
+// Where the run of walked parts begins.
+fn run_from(blocks: Blocks, parts: &Parts) -> usize
+    ensures value { λ r. ⌜ r ≡ run-from blocks (now (parts .entry)) ⌝ }
+    ensures bound { λ r. ⌜ r ≤ 400000 ⌝ }
+{
+    let start = parts.start as usize;
+    match blocks {
+        Blocks::None | Blocks::Walked | Blocks::Held => start,
+        Blocks::List | Blocks::Catch => start + parts.head as usize,
+    }
+}
+
+// How many children the walked parts have.
+fn run_count(blocks: Blocks, parts: &Parts) -> usize
+    ensures value { λ r. ⌜ r ≡ run-count blocks (now (parts .entry)) ⌝ }
+    ensures bound { λ r. ⌜ r ≤ 400000 ⌝ }
+{
+    let head = parts.head as usize;
+    let body = parts.body as usize;
+    let branch = parts.branch as usize;
+    match blocks {
+        Blocks::None => head,
+        Blocks::List => body,
+        Blocks::Walked => head + body + branch,
+        Blocks::Held => head + body,
+        Blocks::Catch => body + branch,
+    }
+}
+
+// Where the arms begin.
+fn arms_start(parts: &Parts) -> usize
+    ensures value { λ r. ⌜ r ≡ arms-from (now (parts .entry)) ⌝ }
+    ensures bound { λ r. ⌜ r ≤ 400000 ⌝ }
+{
+    parts.start as usize + parts.head as usize + parts.body as usize + parts.branch as usize
+}
+
+// How many children a node holds.
+fn kid_count(parts: &Parts) -> usize
+    ensures value { λ r. ⌜ r ≡ kids (now (parts .entry)) ⌝ }
+    ensures bound { λ r. ⌜ r ≤ 400000 ⌝ }
+{
+    parts.head as usize + parts.body as usize + parts.branch as usize + parts.arms as usize + parts.arms as usize
+}
+
+// How many references to arms a node has.
+fn reference_count(parts: &Parts) -> usize
+    ensures value { λ r. ⌜ r ≡ references (now (parts .entry)) ⌝ }
+    ensures bound { λ r. ⌜ r ≤ 400000 ⌝ }
+{
+    parts.values as usize + parts.ranges as usize
+}
+
+fn default_count(second: Second) -> usize
+    ensures value { λ r. ⌜ r ≡ length (default-of second) ⌝ }
+    ensures bound { λ r. ⌜ r ≤ 400000 ⌝ }
+{
+    match second {
+        Second::Default(_) => 1,
+        Second::Nothing | Second::Name(_) | Second::Namespace(_) => 0,
+    }
+}
+
+fn default_arm(second: Second) -> usize
+    ensures { λ r. ⌜ r ≡ getD (default-of second) 0 0 ⌝ }
+{
+    match second {
+        Second::Default(arm) => arm as usize,
+        Second::Nothing | Second::Name(_) | Second::Namespace(_) => 0,
+    }
+}
+
+impl Memory<'_> {
+    // How many children of a node are walked.
+    pub(crate) fn child_count(&self, node: &Node) -> usize
+        ensures length { λ r. ⌜ r ≡ length (walked (state-of (now (self .entry))) (now (node .entry))) ⌝ }
+        ensures count { λ r. ⌜ r ≡ child-count (state-of (now (self .entry))) (now (node .entry)) ⌝ }
+    {
+        let arms = reference_count(&node.parts) + default_count(node.details.second);
+        run_count(node.details.kind.shape().blocks, &node.parts) + (arms + arms)
+    }
+
+    // The arm that a node refers to at a number, the default behind all references.
+    fn reference(&self, node: &Node, k: usize) -> usize
+        requires run { ⌜ now node .parts .start + total (now node .parts) ≤ length (now (now self .links)) ⌝ }
+        requires within { ⌜ k < length (referred (state-of (now self)) (now node)) ⌝ }
+        ensures { λ r. ⌜ r ≡ getD (referred (state-of (now (self .entry))) (now (node .entry))) k 0 ⌝ }
+    {
+        if k < reference_count(&node.parts) {
+            self.links[node.parts.start as usize + kid_count(&node.parts) + k].place as usize
+        } else {
+            default_arm(node.details.second)
+        }
+    }
+
+    // The child of a node at a number, in walk order.
+    pub(crate) fn child(&self, node: &Node, i: usize) -> usize
+        requires run { ⌜ now node .parts .start + total (now node .parts) ≤ length (now (now self .links)) ⌝ }
+        requires arms { ⌜ ((k : ℕ) → k < length (referred (state-of (now self)) (now node)) → getD (referred (state-of (now self)) (now node)) k 0 < now node .parts .arms) ⌝ }
+        requires within { ⌜ i < child-count (state-of (now self)) (now node) ⌝ }
+        ensures { λ r. ⌜ ((d : ℕ) → r ≡ getD (walked (state-of (now (self .entry))) (now (node .entry))) i d) ⌝ }
+    {
+        let blocks = node.details.kind.shape().blocks;
+        let direct = run_count(blocks, &node.parts);
+        if i < direct {
+            return self.links[run_from(blocks, &node.parts) + i].place as usize;
+        }
+        let arm = self.reference(node, (i - direct) / 2);
+        let at = arms_start(&node.parts) + arm + arm + (i - direct) % 2;
+        self.links[at].place as usize
+    }
+}
