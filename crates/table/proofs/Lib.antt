@@ -1,1 +1,4 @@
 pub mod Found
+pub mod Elements
+pub mod Adopts
+pub mod Has

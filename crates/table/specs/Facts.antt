@@ -8,7 +8,7 @@ use lib.ListN.{length, getD}
 use Rattle.node.specs.declared.kinds.Kind.{Kind}
 use Rattle.node.specs.declared.kinds.Kind.the-variants as kind
 use Rattle.node.specs.declared.records.Parts.{Parts}
-use Rattle.table.specs.State.{State, node-at, link-at, kids, total, referred, walked, held, has, distinct, up-number, highest, all-lines}
+use Rattle.table.specs.State.{State, node-at, links-of, kids, total, arms-referred, children, held, has, distinct, up-number, highest, all-lines}
 
 -- a place names a node
 abbrev pub known : State → ℕ → Bool
@@ -20,7 +20,7 @@ rank s i = i
 
 -- the k-th child that a node holds
 abbrev pub kid : State → ℕ → ℕ → ℕ
-kid s i k = link-at s (node-at s i .parts .start + k) .place
+kid s i k = links-of s (node-at s i) k
 
 -- a known node holds a k-th child; it stands under p; it refers to arms, and there is a k-th reference
 abbrev pub Holds : State → ℕ → ℕ → Type 0
@@ -30,7 +30,7 @@ abbrev pub Under : State → ℕ → ℕ → Type 0
 Under s i p = (i < s .used) × (up-number (node-at s i .up) ≡ suc (suc p))
 
 abbrev pub Refers : State → ℕ → ℕ → Type 0
-Refers s i k = (i < s .used) × (k < length (referred s (node-at s i)))
+Refers s i k = (i < s .used) × (k < length (arms-referred s i))
 
 -- body and branch take statements, every other part expressions
 abbrev pub takes-stmt : Parts → ℕ → Bool
@@ -62,14 +62,14 @@ abbrev pub KidsUnder : State → Type 0
 KidsUnder s = (i k : ℕ) → Holds s i k → up-number (node-at s (kid s i k) .up) ≡ suc (suc i)
 
 abbrev pub KidsOnce : State → Type 0
-KidsOnce s = (i : ℕ) → i < s .used → distinct (held s (node-at s i)) ≡ true
+KidsOnce s = (i : ℕ) → i < s .used → distinct (held s i) ≡ true
 
 -- what stands under a node is held by it
 abbrev pub UpKnown : State → Type 0
 UpKnown s = (i p : ℕ) → Under s i p → p < s .used
 
 abbrev pub UpHolds : State → Type 0
-UpHolds s = (i p : ℕ) → Under s i p → has (held s (node-at s p)) i ≡ true
+UpHolds s = (i p : ℕ) → Under s i p → has (held s p) i ≡ true
 
 -- statements and expressions stand where they may
 abbrev pub KidsSorted : State → Type 0
@@ -77,31 +77,31 @@ KidsSorted s = (i k : ℕ) → Holds s i k → is-stmt (node-at s (kid s i k) .d
 
 -- an arm that is referred to is there
 abbrev pub ArmsThere : State → Type 0
-ArmsThere s = (i k : ℕ) → Refers s i k → getD (referred s (node-at s i)) k 0 < node-at s i .parts .arms
+ArmsThere s = (i k : ℕ) → Refers s i k → getD (arms-referred s i) k 0 < node-at s i .parts .arms
 
 -- the height is one above the highest walked child's, and at most 64
 abbrev pub Heights : State → Type 0
-Heights s = (i : ℕ) → i < s .used → node-at s i .height ≡ suc (highest s (walked s (node-at s i)))
+Heights s = (i : ℕ) → i < s .used → node-at s i .height ≡ suc (highest s (children s i))
 
 abbrev pub HeightsFit : State → Type 0
 HeightsFit s = (i : ℕ) → i < s .used → node-at s i .height ≤ 64
 
 -- the number of lines is one more than those of the walked children together, and at most 65,535
 abbrev pub Lines : State → Type 0
-Lines s = (i : ℕ) → i < s .used → node-at s i .lines ≡ suc (all-lines s (walked s (node-at s i)))
+Lines s = (i : ℕ) → i < s .used → node-at s i .lines ≡ suc (all-lines s (children s i))
 
 abbrev pub LinesFit : State → Type 0
 LinesFit s = (i : ℕ) → i < s .used → node-at s i .lines ≤ 65535
 
 -- walked children are known and lower: the law of a tree
 abbrev pub Walks : State → ℕ → ℕ → Type 0
-Walks s i k = (i < s .used) × (k < length (walked s (node-at s i)))
+Walks s i k = (i < s .used) × (k < length (children s i))
 
 abbrev pub WalkedKnown : State → Type 0
-WalkedKnown s = (i k : ℕ) → Walks s i k → getD (walked s (node-at s i)) k i < s .used
+WalkedKnown s = (i k : ℕ) → Walks s i k → getD (children s i) k i < s .used
 
 abbrev pub WalkedLower : State → Type 0
-WalkedLower s = (i k : ℕ) → Walks s i k → node-at s (getD (walked s (node-at s i)) k i) .height < node-at s i .height
+WalkedLower s = (i k : ℕ) → Walks s i k → node-at s (getD (children s i) k i) .height < node-at s i .height
 
 -- all of it
 pub record Sound (s : State) : Type 0 where

@@ -2,3 +2,4 @@ pub mod State
 pub mod Finds
 pub mod Facts
 pub mod Trees
+pub mod Grows

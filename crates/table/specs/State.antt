@@ -11,6 +11,7 @@ use Rattle.node.specs.Positions.{none}
 use Rattle.node.specs.Shapes.{shape-of}
 use Rattle.node.specs.declared.kinds.Kind.the-variants as kind
 use Rattle.node.specs.declared.kinds.StmtKind.the-variants as stmt
+use Rattle.node.specs.declared.records.Details.{Details}
 use Rattle.node.specs.declared.records.Ident.{Ident}
 use Rattle.node.specs.declared.records.Link.{Link}
 use Rattle.node.specs.declared.records.Node.{Node}
@@ -69,31 +70,35 @@ references p = p .values + p .ranges
 abbrev pub total : Parts → ℕ
 total p = kids p + references p + p .shared
 
--- the places named by so many links from one on
-abbrev pub places : State → ℕ → ℕ → List ℕ
-places s from count = map (λ k. link-at s k .place) (counting from count)
+-- What a node's links name, by the number of the link within its run. The definitions below are over such a
+-- function, so that they serve a node in the table and one that is about to be put.
+abbrev pub links-of : State → Node → ℕ → ℕ
+links-of s n k = link-at s (n .parts .start + k) .place
+
+abbrev pub named : (ℕ → ℕ) → ℕ → ℕ → List ℕ
+named f from count = map f (counting from count)
 
 -- the parts of a node: its head, body and branch, its arms by number, and the arms that it refers to
-abbrev pub head-of : State → Parts → List ℕ
-head-of s p = places s (p .start) (p .head)
+abbrev pub head-of : (ℕ → ℕ) → Parts → List ℕ
+head-of f p = named f 0 (p .head)
 
-abbrev pub body-of : State → Parts → List ℕ
-body-of s p = places s (p .start + p .head) (p .body)
+abbrev pub body-of : (ℕ → ℕ) → Parts → List ℕ
+body-of f p = named f (p .head) (p .body)
 
-abbrev pub branch-of : State → Parts → List ℕ
-branch-of s p = places s (p .start + p .head + p .body) (p .branch)
+abbrev pub branch-of : (ℕ → ℕ) → Parts → List ℕ
+branch-of f p = named f (p .head + p .body) (p .branch)
 
 abbrev pub arms-from : Parts → ℕ
-arms-from p = p .start + p .head + p .body + p .branch
+arms-from p = p .head + p .body + p .branch
 
-abbrev pub condition-of : State → Parts → ℕ → ℕ
-condition-of s p arm = link-at s (arms-from p + arm + arm) .place
+abbrev pub condition-of : (ℕ → ℕ) → Parts → ℕ → ℕ
+condition-of f p arm = f (arms-from p + arm + arm)
 
-abbrev pub value-of : State → Parts → ℕ → ℕ
-value-of s p arm = link-at s (arms-from p + arm + arm + 1) .place
+abbrev pub value-of : (ℕ → ℕ) → Parts → ℕ → ℕ
+value-of f p arm = f (arms-from p + arm + arm + 1)
 
-abbrev pub references-of : State → Parts → List ℕ
-references-of s p = places s (p .start + kids p) (references p)
+abbrev pub references-of : (ℕ → ℕ) → Parts → List ℕ
+references-of f p = named f (kids p) (references p)
 
 abbrev pub default-of : Second → List ℕ
 default-of second.Nothing = []
@@ -102,12 +107,12 @@ default-of (second.Namespace q) = []
 default-of (second.Default arm) = arm ∷ []
 
 -- the arms that a node refers to: by values, by ranges, and by its default
-abbrev pub referred : State → Node → List ℕ
-referred s n = references-of s (n .parts) ++ default-of (n .details .second)
+abbrev pub referred : (ℕ → ℕ) → Details → Parts → List ℕ
+referred f d p = references-of f p ++ default-of (d .second)
 
 -- the children through arms: the condition and the value of each
-abbrev pub through : State → Parts → List ℕ → List ℕ
-through s p arms = joined (λ arm. condition-of s p arm ∷ value-of s p arm ∷ []) arms
+abbrev pub through : (ℕ → ℕ) → Parts → List ℕ → List ℕ
+through f p arms = joined (λ arm. condition-of f p arm ∷ value-of f p arm ∷ []) arms
 
 -- which of head, body and branch are walked, and in which order
 abbrev pub walked-parts : Blocks → List ℕ → List ℕ → List ℕ → List ℕ
@@ -118,14 +123,18 @@ walked-parts blocks.Held head body branch = head ++ body
 walked-parts blocks.Catch head body branch = body ++ branch
 
 -- the children in walk order: the walked parts, then for each reference and the default the arm's condition and value
-abbrev pub walked : State → Node → List ℕ
-walked s n =
-    walked-parts (shape-of (n .details .kind) .blocks) (head-of s (n .parts)) (body-of s (n .parts)) (branch-of s (n .parts))
-    ++ through s (n .parts) (referred s n)
+abbrev pub walked : (ℕ → ℕ) → Details → Parts → List ℕ
+walked f d p = walked-parts (shape-of (d .kind) .blocks) (head-of f p) (body-of f p) (branch-of f p) ++ through f p (referred f d p)
 
--- all children that a node holds, walked or not
-abbrev pub held : State → Node → List ℕ
-held s n = places s (n .parts .start) (kids (n .parts))
+-- the walked children of a node in the table, and all that it holds, walked or not
+abbrev pub children : State → ℕ → List ℕ
+children s i = walked (links-of s (node-at s i)) (node-at s i .details) (node-at s i .parts)
+
+abbrev pub held : State → ℕ → List ℕ
+held s i = named (links-of s (node-at s i)) 0 (kids (node-at s i .parts))
+
+abbrev pub arms-referred : State → ℕ → List ℕ
+arms-referred s i = referred (links-of s (node-at s i)) (node-at s i .details) (node-at s i .parts)
 
 -- a place stands in a list
 abbrev pub has : List ℕ → ℕ → Bool

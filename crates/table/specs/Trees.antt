@@ -8,7 +8,7 @@ use Rattle.tree.specs.Lines.{TreeLaw}
 use Rattle.node.specs.declared.faults.TableFault.{TableFault}
 use Rattle.node.specs.declared.faults.TableFault.the-variants.{Missing}
 use Rattle.table.specs.Facts.{known}
-use Rattle.table.specs.State.{state-of, node-at, walked}
+use Rattle.table.specs.State.{state-of, node-at, children}
 use Rattle.table.specs.declared.tables.Table.{Table}
 
 abbrev pub table-knows : Table → ℕ → Bool
@@ -18,7 +18,7 @@ abbrev pub table-height : Table → ℕ → ℕ
 table-height t i = node-at (state-of (t .memory)) i .height
 
 abbrev pub table-children : Table → ℕ → List ℕ
-table-children t i = walked (state-of (t .memory)) (node-at (state-of (t .memory)) i)
+table-children t i = children (state-of (t .memory)) i
 
 abbrev pub table-missing : Table → ℕ → TableFault
 table-missing t i = Missing i

@@ -1,5 +1,6 @@
 //! The script table: nodes of a script's tree in lent memory.
 mod children;
+mod grows;
 pub mod memory;
 pub mod tables;
 pub mod trees;
