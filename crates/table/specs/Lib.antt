@@ -3,3 +3,4 @@ pub mod Finds
 pub mod Facts
 pub mod Trees
 pub mod Grows
+pub mod Fresh
