@@ -4,3 +4,4 @@ pub mod Facts
 pub mod Trees
 pub mod Grows
 pub mod Fresh
+pub mod Tests
