@@ -4,3 +4,4 @@ pub mod Adopts
 pub mod Has
 pub mod Agree
 pub mod Kept
+pub mod Failing

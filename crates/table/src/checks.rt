@@ -1,14 +1,16 @@
 //! The tests of a put on the children that are handed in, and what they come to.
 ghost use Prim.Native.Nat.{ℕ, _+_, _<_, _≤_};
-ghost use Rattle.table.specs.Facts.{is-stmt, takes-stmt};
-ghost use Rattle.table.specs.State.{state-of, up-number};
-ghost use Rattle.table.specs.Tests.{first-held, first-misplaced, first-unknown};
+ghost use Rattle.draft.specs.Fits.{same};
+ghost use Rattle.table.specs.Facts.{is-stmt, known, takes-stmt};
+ghost use Rattle.table.specs.State.{node-at, state-of, up-number};
+ghost use Rattle.table.specs.Tests.{first-failing, in-place, is-free, is-known, not-held};
 ghost use lib.Dec.{eqb};
 ghost use lib.ListN.{getD, length};
 ghost use mathlib.Core.Bool.{Bool};
 ghost use mathlib.Core.List.{[]};
 ghost use mathlib.Core.Path.{_≡_};
 use crate::memory::Memory;
+use crate::seen::Seen;
 use node::kinds::Kind;
 use node::records::Parts;
 use node::records::Up;
@@ -30,7 +32,7 @@ fn takes_stmt(parts: &Parts, k: usize) -> bool
     head <= k && k < head + parts.body as usize + parts.branch as usize
 }
 
-fn is_free(up: Up) -> bool
+fn no_parent(up: Up) -> bool
     ensures { λ r. ⌜ r ≡ eqb (up-number up) 0 ⌝ }
 {
     match up {
@@ -42,11 +44,12 @@ fn is_free(up: Up) -> bool
 impl Memory<'_> {
     // The first place that names no node.
     pub(crate) fn first_unknown(&self, places: &[usize]) -> Option<usize>
-        ensures { λ r. ⌜ r ≡ first-unknown (state-of (now (self .entry))) (now (places .entry)) ⌝ }
+        ensures { λ r. ⌜ r ≡ first-failing (is-known (state-of (now (self .entry)))) [] (now (places .entry)) ⌝ }
     {
-        for place in places {
-            if *place >= self.used {
-                return Some(*place);
+        for k in 0..places.len() {
+            let place = places[k];
+            if !self.knows(place) {
+                return Some(place);
             }
         }
         None
@@ -54,14 +57,55 @@ impl Memory<'_> {
 
     // The first place at which a statement stands for an expression, or the other way round.
     pub(crate) fn first_misplaced(&self, parts: &Parts, places: &[usize]) -> Option<usize>
-        requires { ⌜ ((k : ℕ) → k < length (now places) → getD (now places) k 0 < length (now (now self .nodes))) ⌝ }
-        ensures { λ r. ⌜ r ≡ first-misplaced (state-of (now (self .entry))) (now (parts .entry)) 0 (now (places .entry)) ⌝ }
+        requires known { ⌜ ((k : ℕ) → k < length (now places) → getD (now places) k 0 < length (now (now self .nodes))) ⌝ }
+        ensures { λ r. ⌜ r ≡ first-failing (in-place (state-of (now (self .entry))) (now (parts .entry))) [] (now (places .entry)) ⌝ }
     {
-        for (k, place) in places.iter().enumerate() {
-            if is_stmt(self.nodes[*place].details.kind) != takes_stmt(parts, k) {
-                return Some(*place);
+        for k in 0..places.len() {
+            let place = places[k];
+            if !self.stands_well(place, parts, k) {
+                return Some(place);
             }
         }
         None
+    }
+
+    // The first place that has a parent, or was named before.
+    pub(crate) fn first_held(&self, places: &[usize]) -> Option<usize>
+        requires known { ⌜ ((k : ℕ) → k < length (now places) → getD (now places) k 0 < length (now (now self .nodes))) ⌝ }
+        requires few { ⌜ ((k : ℕ) → k < length (now places) → getD (now places) k 0 < 4096) ⌝ }
+        ensures { λ r. ⌜ r ≡ first-failing (not-held (state-of (now (self .entry)))) [] (now (places .entry)) ⌝ }
+    {
+        let mut seen = Seen::none();
+        for k in 0..places.len() {
+            let place = places[k];
+            if !(self.is_free(place) & !seen.has(place)) {
+                return Some(place);
+            }
+            seen.mark(place);
+        }
+        None
+    }
+
+    fn knows(&self, place: usize) -> bool
+        ensures { λ r. ⌜ r ≡ known (state-of (now (self .entry))) place ⌝ }
+    {
+        place < self.used
+    }
+
+    // Whether a node is of the sort that a part takes at its k-th child.
+    fn stands_well(&self, place: usize, parts: &Parts, k: usize) -> bool
+        requires { ⌜ place < length (now (now self .nodes)) ⌝ }
+        ensures { λ r. ⌜ r ≡ same (is-stmt (node-at (state-of (now (self .entry))) place .details .kind)) (takes-stmt (now (parts .entry)) k) ⌝ }
+    {
+        let stmt = is_stmt(self.nodes[place].details.kind);
+        if takes_stmt(parts, k) { stmt } else { !stmt }
+    }
+
+    // Whether a node stands under nothing.
+    fn is_free(&self, place: usize) -> bool
+        requires { ⌜ place < length (now (now self .nodes)) ⌝ }
+        ensures { λ r. ⌜ r ≡ is-free (state-of (now (self .entry))) place ⌝ }
+    {
+        no_parent(self.nodes[place].up)
     }
 }

@@ -3,5 +3,6 @@ mod checks;
 mod children;
 mod grows;
 pub mod memory;
+mod seen;
 pub mod tables;
 pub mod trees;
