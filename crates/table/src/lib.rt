@@ -2,6 +2,7 @@
 mod checks;
 mod children;
 mod grows;
+mod measures;
 pub mod memory;
 mod seen;
 pub mod tables;
