@@ -15,8 +15,7 @@ use Rattle.table.specs.State.{State, node-at, has, blank}
 use Rattle.table.proofs.Has.{has-push-same, has-push-other}
 
 module _ (s : State) (places : List ℕ) (p k : ℕ) (within : k < length places) (nodes : List Node) (long : length nodes ≡ length (s .nodes))
-  (so-far : (j : ℕ) → j < length (s .nodes) → getD nodes j blank ≡ adopted s (take k places) p j) where
-
+    (so-far : (j : ℕ) → j < length (s .nodes) → getD nodes j blank ≡ adopted s (take k places) p j) where
   abbrev c : ℕ
   c = getD places k 0
 
@@ -37,7 +36,7 @@ module _ (s : State) (places : List ℕ) (p k : ℕ) (within : k < length places
   adopt-more lt j ltj =
       ⊎-elim (λ e. subst (λ i. getD (set nodes c (with-up (up.Node p) (getD nodes c blank))) i blank ≡ adopted s (take (k + 1) places) p i) (sym e) (here lt))
       (λ ne.
-        getD-set-other nodes c j _ blank ne
-        ∙ so-far j ltj
-        ∙ ap (λ b. cond b (with-up (up.Node p) (node-at s j)) (node-at s j)) (sym (ap (λ xs. has xs j) pushed ∙ has-push-other (take k places) c j (λ e. ne (sym e)))))
+      getD-set-other nodes c j _ blank ne
+      ∙ so-far j ltj
+      ∙ ap (λ b. cond b (with-up (up.Node p) (node-at s j)) (node-at s j)) (sym (ap (λ xs. has xs j) pushed ∙ has-push-other (take k places) c j (λ e. ne (sym e)))))
       (cases-eq j c)

@@ -30,18 +30,20 @@ run-within blocks.Catch p = omega arith
 
 -- a walked child is one of those held
 pub walked-held : (f : ℕ → ℕ) (d : Details) (p : Parts) → ((k : ℕ) → k < length (referred f d p) → getD (referred f d p) k 0 < p .arms)
-  → (i : ℕ) → i < length (walked f d p) → (k : ℕ) × (k < kids p) × (getD (walked f d p) i 0 ≡ f k)
+    → (i : ℕ) → i < length (walked f d p) → (k : ℕ) × (k < kids p) × (getD (walked f d p) i 0 ≡ f k)
 walked-held f d p arms i lt = ⊎-elim near far (cases-lt i (direct d p))
   where
     near : i < direct d p → (k : ℕ) × (k < kids p) × (getD (walked f d p) i 0 ≡ f k)
     near less = (run-from (shape-of (d .kind) .blocks) p + i, omega (arith, run-within (shape-of (d .kind) .blocks) p), getD-walked-direct f d p i less)
+
     far : direct d p ≤ i → (k : ℕ) × (k < kids p) × (getD (walked f d p) i 0 ≡ f k)
     far more =
         let j = (i - direct d p) / 2 in
-        let low = arms j (omega (arith, length-referred f d p, length-walked f d p)) in
-        ( arms-from p + getD (referred f d p) j 0 + getD (referred f d p) j 0 + (i - direct d p) % 2,
+        let low = arms j (omega (arith, length-referred f d p, length-walked f d p)) in (
+          arms-from p + getD (referred f d p) j 0 + getD (referred f d p) j 0 + (i - direct d p) % 2,
           omega arith,
-          getD-walked-arms f d p i more (omega (arith, length-walked f d p)) )
+          getD-walked-arms f d p i more (omega (arith, length-walked f d p)),
+        )
 
 module _ (f g : ℕ → ℕ) (d : Details) (p : Parts) (same : (k : ℕ) → k < kids p + references p → f k ≡ g k) where
   pub referred-agrees : referred f d p ≡ referred g d p
@@ -52,6 +54,7 @@ module _ (f g : ℕ → ℕ) (d : Details) (p : Parts) (same : (k : ℕ) → k <
     where
       near : (i : ℕ) → i < direct d p → getD (walked f d p) i 0 ≡ getD (walked g d p) i 0
       near i less = getD-walked-direct f d p i less ∙ same _ (omega (arith, run-within (shape-of (d .kind) .blocks) p)) ∙ sym (getD-walked-direct g d p i less)
+
       far : (i : ℕ) → direct d p ≤ i → i < child-count d p → getD (walked f d p) i 0 ≡ getD (walked g d p) i 0
       far i more lt =
           let j = (i - direct d p) / 2 in
@@ -60,6 +63,7 @@ module _ (f g : ℕ → ℕ) (d : Details) (p : Parts) (same : (k : ℕ) → k <
           ∙ same _ (omega arith)
           ∙ ap (λ x. g (arms-from p + getD x j 0 + getD x j 0 + (i - direct d p) % 2)) referred-agrees
           ∙ sym (getD-walked-arms g d p i more lt)
+
       at : (i : ℕ) → i < length (walked f d p) → getD (walked f d p) i 0 ≡ getD (walked g d p) i 0
       at i lt = ⊎-elim (near i) (λ more. far i more (omega (arith, length-walked f d p))) (cases-lt i (direct d p))
 

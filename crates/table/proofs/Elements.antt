@@ -25,6 +25,6 @@ blank-raw = record { name = record { start = 0; len = 0 }; pos = None }
 
 -- a name that was tested is kept
 pub kept-ident : (idents : List RawIdent) (k : ℕ) (d : RawIdent) (r : Option Ident) → all ident-in-range idents ≡ true → all (ident-within 65535) idents ≡ true → k < length idents
-  → r ≡ cond (ident-in-range (getD idents k d) && ident-within 65535 (getD idents k d)) (Some (ident-of (getD idents k d))) None → r ≡ Some (ident-of (getD idents k d))
+    → r ≡ cond (ident-in-range (getD idents k d) && ident-within 65535 (getD idents k d)) (Some (ident-of (getD idents k d))) None → r ≡ Some (ident-of (getD idents k d))
 kept-ident idents k d r range within lt is =
     is ∙ cond-true (ident-in-range (getD idents k d) && ident-within 65535 (getD idents k d)) _ _ (and-from _ _ (all-at ident-in-range idents k d range lt) (all-at (ident-within 65535) idents k d within lt))

@@ -12,7 +12,7 @@ use Rattle.table.specs.Tests.{first-failing}
 
 module _ (test : List ℕ → ℕ → Bool) (places : List ℕ) (k : ℕ) (within : k < length places) where
   step : first-failing test (take k places) (drop k places)
-    ≡ cond (test (take k places) (getD places k 0)) (first-failing test (take (k + 1) places) (drop (k + 1) places)) (Some (getD places k 0))
+      ≡ cond (test (take k places) (getD places k 0)) (first-failing test (take (k + 1) places) (drop (k + 1) places)) (Some (getD places k 0))
   step =
       at-drop-more (first-failing test (take k places)) places k 0 within
       ∙ ap (λ x. cond (test (take k places) (getD places k 0)) (first-failing test x (drop (k + 1) places)) (Some (getD places k 0))) (sym (take-more places k 0 within))

@@ -53,7 +53,7 @@ length-through f p [] = refl
 length-through f p (a ∷ as′) = omega (arith, length-through f p as′)
 
 getD-through : (f : ℕ → ℕ) (p : Parts) (arms : List ℕ) (j d : ℕ) → j < length arms + length arms
-  → getD (through f p arms) j d ≡ f (arms-from p + getD arms (j / 2) 0 + getD arms (j / 2) 0 + j % 2)
+    → getD (through f p arms) j d ≡ f (arms-from p + getD arms (j / 2) 0 + getD arms (j / 2) 0 + j % 2)
 getD-through f p [] j d lt = absurd (omega arith)
 getD-through f p (a ∷ as′) zero d lt = ap f (omega arith)
 getD-through f p (a ∷ as′) (suc zero) d lt = refl
@@ -64,6 +64,7 @@ getD-through f p (a ∷ as′) (suc (suc j)) d lt =
   where
     halves : suc (j / 2) ≡ suc (suc j) / 2
     halves = omega arith
+
     rests : j % 2 ≡ suc (suc j) % 2
     rests = omega arith
 
@@ -96,7 +97,7 @@ module _ (f : ℕ → ℕ) (d : Details) (p : Parts) where
       ∙ getD-named f from (direct d p) i 0 lt
 
   pub getD-walked-arms : (i : ℕ) → direct d p ≤ i → i < child-count d p
-    → getD (walked f d p) i 0 ≡ f (arms-from p + getD (referred f d p) ((i - direct d p) / 2) 0 + getD (referred f d p) ((i - direct d p) / 2) 0 + (i - direct d p) % 2)
+      → getD (walked f d p) i 0 ≡ f (arms-from p + getD (referred f d p) ((i - direct d p) / 2) 0 + getD (referred f d p) ((i - direct d p) / 2) 0 + (i - direct d p) % 2)
   getD-walked-arms i ge lt =
       let from = run-from (shape-of (d .kind) .blocks) p in
       ap (λ x. getD x i 0) walked-is

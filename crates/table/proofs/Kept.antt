@@ -23,9 +23,8 @@ use Rattle.table.proofs.Has.{has-at, has-place}
 
 -- the tree law of walked children follows from the rest
 module _ (s : State) (kids-known : (i k : ℕ) → Holds s i k → kid s i k < s .used)
-  (arms-there : (i k : ℕ) → Refers s i k → getD (arms-referred s i) k 0 < node-at s i .parts .arms)
-  (heights : (i : ℕ) → i < s .used → node-at s i .height ≡ suc (highest s (children s i))) where
-
+    (arms-there : (i k : ℕ) → Refers s i k → getD (arms-referred s i) k 0 < node-at s i .parts .arms)
+    (heights : (i : ℕ) → i < s .used → node-at s i .height ≡ suc (highest s (children s i))) where
   pub child-known : (i k : ℕ) → Walks s i k → getD (children s i) k i < s .used
   child-known i k (lt, within) =
       let n = node-at s i in
@@ -47,7 +46,7 @@ module _ (s s′ : State) (node : Node) (kid-list : List ℕ) (new : ℕ → Lin
 
   -- an adopted node differs only in what it stands under
   adopted-data : (b : Bool) (n : Node) → (cond b (with-up (up.Node u) n) n .details ≡ n .details) × (cond b (with-up (up.Node u) n) n .parts ≡ n .parts)
-    × (cond b (with-up (up.Node u) n) n .height ≡ n .height) × (cond b (with-up (up.Node u) n) n .lines ≡ n .lines)
+      × (cond b (with-up (up.Node u) n) n .height ≡ n .height) × (cond b (with-up (up.Node u) n) n .lines ≡ n .lines)
   adopted-data true n = (refl, refl, refl, refl)
   adopted-data false n = (refl, refl, refl, refl)
 
@@ -85,7 +84,7 @@ module _ (s s′ : State) (node : Node) (kid-list : List ℕ) (new : ℕ → Lin
       let arms-old = referred-agrees (links-of s′ (node-at s′ j)) (links-of s n) (n .details) (n .parts) agree in
       ap₂ (walked (links-of s′ (node-at s′ j))) (same-details j lt) (same-parts j lt)
       ∙ walked-agrees (links-of s′ (node-at s′ j)) (links-of s n) (n .details) (n .parts) agree
-        (λ k high. subst (λ xs. getD xs k 0 < n .parts .arms) (sym arms-old) (sound .arms-there j k (lt, subst (λ xs. k < length xs) arms-old high)))
+      (λ k high. subst (λ xs. getD xs k 0 < n .parts .arms) (sym arms-old) (sound .arms-there j k (lt, subst (λ xs. k < length xs) arms-old high)))
 
   -- the new node
   new-details : node-at s′ u .details ≡ node .details
@@ -105,10 +104,10 @@ module _ (s s′ : State) (node : Node) (kid-list : List ℕ) (new : ℕ → Lin
   new-held =
       ap (λ p. named (links-of s′ (node-at s′ u)) 0 (kids p)) new-parts
       ∙ same-lists (named (links-of s′ (node-at s′ u)) 0 (kids (node .parts))) kid-list (length-named (links-of s′ (node-at s′ u)) 0 (kids (node .parts)) ∙ sym (fresh .listed))
-        (λ k d high.
-          let within : k < kids (node .parts) = omega (arith, length-named (links-of s′ (node-at s′ u)) 0 (kids (node .parts))) in
-          getD-named (links-of s′ (node-at s′ u)) 0 (kids (node .parts)) k d within
-          ∙ ap (links-of s′ (node-at s′ u)) {y = k} (omega arith) ∙ new-kid k within ∙ getD-default kid-list k 0 d (omega (arith, fresh .listed)))
+      (λ k d high.
+      let within : k < kids (node .parts) = omega (arith, length-named (links-of s′ (node-at s′ u)) 0 (kids (node .parts))) in
+      getD-named (links-of s′ (node-at s′ u)) 0 (kids (node .parts)) k d within
+      ∙ ap (links-of s′ (node-at s′ u)) {y = k} (omega arith) ∙ new-kid k within ∙ getD-default kid-list k 0 d (omega (arith, fresh .listed)))
 
   new-referred : arms-referred s′ u ≡ referred (λ i. new i .place) (node .details) (node .parts)
   new-referred =
@@ -163,12 +162,12 @@ module _ (s s′ : State) (node : Node) (kid-list : List ℕ) (new : ℕ → Lin
   kids-under′ : (j k : ℕ) → Holds s′ j k → up-number (node-at s′ (kid s′ j k) .up) ≡ suc (suc j)
   kids-under′ j k (lt, within) = by-place (λ i. k < kids (node-at s′ i .parts) → up-number (node-at s′ (kid s′ i k) .up) ≡ suc (suc i))
       (λ i less w.
-        let h = was-held i k less w in
-        ap (λ x. up-number (node-at s′ x .up)) (same-kid i k h) ∙ still-under (kid s i k) (suc i) (sound .kids-known i k h) (sound .kids-under i k h))
+      let h = was-held i k less w in
+      ap (λ x. up-number (node-at s′ x .up)) (same-kid i k h) ∙ still-under (kid s i k) (suc i) (sound .kids-known i k h) (sound .kids-under i k h))
       (λ w.
-        let here = is-held k w in
-        ap (λ x. up-number (node-at s′ x .up)) (new-kid k here) ∙ up-is (getD kid-list k 0) (fresh .known k here)
-        ∙ ap (λ b. cond b (suc (suc u)) (up-number (node-at s (getD kid-list k 0) .up))) (has-at kid-list k 0 (omega (arith, fresh .listed)))) j lt within
+      let here = is-held k w in
+      ap (λ x. up-number (node-at s′ x .up)) (new-kid k here) ∙ up-is (getD kid-list k 0) (fresh .known k here)
+      ∙ ap (λ b. cond b (suc (suc u)) (up-number (node-at s (getD kid-list k 0) .up))) (has-at kid-list k 0 (omega (arith, fresh .listed)))) j lt within
 
   kids-once′ : (j : ℕ) → j < s′ .used → distinct (held s′ j) ≡ true
   kids-once′ j lt = by-place (λ i. distinct (held s′ i) ≡ true) (λ i less. ap distinct (same-held i less) ∙ sound .kids-once i less) (ap distinct new-held ∙ fresh .once) j lt
@@ -192,29 +191,29 @@ module _ (s s′ : State) (node : Node) (kid-list : List ℕ) (new : ℕ → Lin
   up-holds′ : (j p : ℕ) → Under s′ j p → has (held s′ p) j ≡ true
   up-holds′ j p (lt, stands) = by-place (λ i. up-number (node-at s′ i .up) ≡ suc (suc p) → has (held s′ p) i ≡ true)
       (λ i less st. ⊎-elim
-        (λ e. subst (λ x. has (held s′ x) i ≡ true) (sym (e .1)) (ap (λ xs. has xs i) new-held ∙ e .0))
-        (λ old. ap (λ xs. has xs i) (same-held p (sound .up-known i p (less, old))) ∙ sound .up-holds i p (less, old)) (up-cases i p less st))
+      (λ e. subst (λ x. has (held s′ x) i ≡ true) (sym (e .1)) (ap (λ xs. has xs i) new-held ∙ e .0))
+      (λ old. ap (λ xs. has xs i) (same-held p (sound .up-known i p (less, old))) ∙ sound .up-holds i p (less, old)) (up-cases i p less st))
       (λ st. absurd (new-alone p st)) j lt stands
 
   kids-sorted′ : (j k : ℕ) → Holds s′ j k → is-stmt (node-at s′ (kid s′ j k) .details .kind) ≡ takes-stmt (node-at s′ j .parts) k
   kids-sorted′ j k (lt, within) = by-place (λ i. k < kids (node-at s′ i .parts) → is-stmt (node-at s′ (kid s′ i k) .details .kind) ≡ takes-stmt (node-at s′ i .parts) k)
       (λ i less w.
-        let h = was-held i k less w in
-        ap (λ x. is-stmt (node-at s′ x .details .kind)) (same-kid i k h) ∙ ap (λ d. is-stmt (d .kind)) (same-details (kid s i k) (sound .kids-known i k h))
-        ∙ sound .kids-sorted i k h ∙ ap (λ p. takes-stmt p k) (sym (same-parts i less)))
+      let h = was-held i k less w in
+      ap (λ x. is-stmt (node-at s′ x .details .kind)) (same-kid i k h) ∙ ap (λ d. is-stmt (d .kind)) (same-details (kid s i k) (sound .kids-known i k h))
+      ∙ sound .kids-sorted i k h ∙ ap (λ p. takes-stmt p k) (sym (same-parts i less)))
       (λ w.
-        let here = is-held k w in
-        ap (λ x. is-stmt (node-at s′ x .details .kind)) (new-kid k here) ∙ ap (λ d. is-stmt (d .kind)) (same-details (getD kid-list k 0) (fresh .known k here))
-        ∙ fresh .sorted k here ∙ ap (λ p. takes-stmt p k) (sym new-parts)) j lt within
+      let here = is-held k w in
+      ap (λ x. is-stmt (node-at s′ x .details .kind)) (new-kid k here) ∙ ap (λ d. is-stmt (d .kind)) (same-details (getD kid-list k 0) (fresh .known k here))
+      ∙ fresh .sorted k here ∙ ap (λ p. takes-stmt p k) (sym new-parts)) j lt within
 
   arms-there′ : (j k : ℕ) → Refers s′ j k → getD (arms-referred s′ j) k 0 < node-at s′ j .parts .arms
   arms-there′ j k (lt, within) = by-place (λ i. k < length (arms-referred s′ i) → getD (arms-referred s′ i) k 0 < node-at s′ i .parts .arms)
       (λ i less w.
-        subst (λ xs. getD xs k 0 < node-at s′ i .parts .arms) (sym (same-referred i less))
-        (subst (λ p. getD (arms-referred s i) k 0 < p .arms) (sym (same-parts i less)) (sound .arms-there i k (less, subst (λ xs. k < length xs) (same-referred i less) w))))
+      subst (λ xs. getD xs k 0 < node-at s′ i .parts .arms) (sym (same-referred i less))
+      (subst (λ p. getD (arms-referred s i) k 0 < p .arms) (sym (same-parts i less)) (sound .arms-there i k (less, subst (λ xs. k < length xs) (same-referred i less) w))))
       (λ w.
-        subst (λ xs. getD xs k 0 < node-at s′ u .parts .arms) (sym new-referred)
-        (subst (λ p. getD (referred (λ i. new i .place) (node .details) (node .parts)) k 0 < p .arms) (sym new-parts) (fresh .arms k (subst (λ xs. k < length xs) new-referred w)))) j lt within
+      subst (λ xs. getD xs k 0 < node-at s′ u .parts .arms) (sym new-referred)
+      (subst (λ p. getD (referred (λ i. new i .place) (node .details) (node .parts)) k 0 < p .arms) (sym new-parts) (fresh .arms k (subst (λ xs. k < length xs) new-referred w)))) j lt within
 
   -- heights and lines
   old-child : (j i : ℕ) → j < u → i < length (children s j) → getD (children s j) i 0 < u
@@ -228,24 +227,24 @@ module _ (s s′ : State) (node : Node) (kid-list : List ℕ) (new : ℕ → Lin
   heights′ : (j : ℕ) → j < s′ .used → node-at s′ j .height ≡ suc (highest s′ (children s′ j))
   heights′ = by-place (λ i. node-at s′ i .height ≡ suc (highest s′ (children s′ i)))
       (λ i less. same-height i less ∙ sound .heights i less
-        ∙ ap suc (sym (ap (highest s′) (same-children i less) ∙ highest-agrees s s′ (children s i) (λ k lt. same-height _ (old-child i k less lt)))))
+      ∙ ap suc (sym (ap (highest s′) (same-children i less) ∙ highest-agrees s s′ (children s i) (λ k lt. same-height _ (old-child i k less lt)))))
       (ap (λ n. n .height) (grown .new-node) ∙ fresh .height
-        ∙ ap suc (sym (ap (highest s′) new-children ∙ highest-agrees s s′ _ (λ k lt. same-height _ (new-child k lt)))))
+      ∙ ap suc (sym (ap (highest s′) new-children ∙ highest-agrees s s′ _ (λ k lt. same-height _ (new-child k lt)))))
 
   lines′ : (j : ℕ) → j < s′ .used → node-at s′ j .lines ≡ suc (all-lines s′ (children s′ j))
   lines′ = by-place (λ i. node-at s′ i .lines ≡ suc (all-lines s′ (children s′ i)))
       (λ i less. same-lines i less ∙ sound .lines i less
-        ∙ ap suc (sym (ap (all-lines s′) (same-children i less) ∙ lines-agree s s′ (children s i) (λ k lt. same-lines _ (old-child i k less lt)))))
+      ∙ ap suc (sym (ap (all-lines s′) (same-children i less) ∙ lines-agree s s′ (children s i) (λ k lt. same-lines _ (old-child i k less lt)))))
       (ap (λ n. n .lines) (grown .new-node) ∙ fresh .lines
-        ∙ ap suc (sym (ap (all-lines s′) new-children ∙ lines-agree s s′ _ (λ k lt. same-lines _ (new-child k lt)))))
+      ∙ ap suc (sym (ap (all-lines s′) new-children ∙ lines-agree s s′ _ (λ k lt. same-lines _ (new-child k lt)))))
 
   pub sound-grown : Sound s′
   sound-grown = record {
     nodes-fit = omega (arith, grown .used, grown .nodes-long, fresh .nodes-fit);
     links-fit = omega (arith, grown .linked, grown .links-long, fresh .links-fit);
     runs-fit = by-place (λ i. node-at s′ i .parts .start + total (node-at s′ i .parts) ≤ s′ .linked)
-      (λ i less. subst (λ p. p .start + total p ≤ s′ .linked) (sym (same-parts i less)) (omega (arith, sound .runs-fit i less, grown .linked)))
-      (subst (λ p. p .start + total p ≤ s′ .linked) (sym new-parts) (omega (arith, fresh .start, fresh .counted, grown .linked)));
+        (λ i less. subst (λ p. p .start + total p ≤ s′ .linked) (sym (same-parts i less)) (omega (arith, sound .runs-fit i less, grown .linked)))
+        (subst (λ p. p .start + total p ≤ s′ .linked) (sym new-parts) (omega (arith, fresh .start, fresh .counted, grown .linked)));
     kids-known = kids-known′;
     kids-lower = kids-lower′;
     kids-under = kids-under′;

@@ -5,3 +5,4 @@ pub mod Trees
 pub mod Grows
 pub mod Fresh
 pub mod Tests
+pub mod Reads

@@ -51,19 +51,31 @@ fn arms_start(parts: &Parts) -> usize
 }
 
 // How many children a node holds.
-fn kid_count(parts: &Parts) -> usize
+pub(crate) fn kid_count(parts: &Parts) -> usize
     ensures value { λ r. ⌜ r ≡ kids (now (parts .entry)) ⌝ }
     ensures bound { λ r. ⌜ r ≤ 400000 ⌝ }
 {
-    parts.head as usize + parts.body as usize + parts.branch as usize + parts.arms as usize + parts.arms as usize
+    parts.head as usize
+        + parts.body as usize
+        + parts.branch as usize
+        + parts.arms as usize
+        + parts.arms as usize
 }
 
 // How many references to arms a node has.
-fn reference_count(parts: &Parts) -> usize
+pub(crate) fn reference_count(parts: &Parts) -> usize
     ensures value { λ r. ⌜ r ≡ references (now (parts .entry)) ⌝ }
     ensures bound { λ r. ⌜ r ≤ 400000 ⌝ }
 {
     parts.values as usize + parts.ranges as usize
+}
+
+// How many links a node has.
+pub(crate) fn link_count(parts: &Parts) -> usize
+    ensures value { λ r. ⌜ r ≡ total (now (parts .entry)) ⌝ }
+    ensures bound { λ r. ⌜ r ≤ 1000000 ⌝ }
+{
+    kid_count(parts) + reference_count(parts) + parts.shared as usize
 }
 
 fn default_count(second: Second) -> usize

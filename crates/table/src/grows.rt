@@ -106,7 +106,14 @@ impl Memory<'_> {
 
 impl Memory<'_> {
     // Puts a node at the first unused place: its links, what its children stand under, its record.
-    pub(crate) fn grow(&mut self, node: Node, places: &[usize], idents: &[RawIdent], kids: usize, count: usize)
+    pub(crate) fn grow(
+        &mut self,
+        node: Node,
+        places: &[usize],
+        idents: &[RawIdent],
+        kids: usize,
+        count: usize,
+    )
         requires nodes { ⌜ now self .used < length (now (now self .nodes)) ⌝ }
         requires few { ⌜ now self .used < 65536 ⌝ }
         requires links { ⌜ now self .linked + count ≤ length (now (now self .links)) ⌝ }

@@ -4,6 +4,7 @@ mod children;
 mod grows;
 mod measures;
 pub mod memory;
+pub mod reads;
 mod seen;
 pub mod tables;
 pub mod trees;

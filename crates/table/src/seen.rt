@@ -15,7 +15,9 @@ impl Seen {
     pub(crate) fn none() -> Seen
         ensures { λ r. ⌜ ((j : ℕ) → j < 4096 → getD (r .marks) j false ≡ false) ⌝ }
     {
-        Seen { marks: [false; 4096] }
+        Seen {
+            marks: [false; 4096],
+        }
     }
 
     pub(crate) fn has(&self, place: usize) -> bool

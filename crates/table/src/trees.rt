@@ -7,6 +7,7 @@ use tree::trees::Tree;
 
 pub impl<'a> Tree for Table<'a> as TableTree {
     type Name = usize;
+
     type Fault = TableFault;
 
     ghost known = { table-knows };

@@ -25,6 +25,6 @@ returns-else-k-reference-count g c =
     let f = g .N·Named .names (c .args .named .now) in
     let here : 0 ≡ k - references p = omega (arith, one-default (d .second)) in
     let is : c .default-arm .result ≡ getD (referred f d p) k 0 =
-        c .default-arm .ensures .value ∙ ap (λ x. getD (default-of (d .second)) x 0) here ∙ sym (getD-referred-right f d p k (omega arith)) in
+    c .default-arm .ensures .value ∙ ap (λ x. getD (default-of (d .second)) x 0) here ∙ sym (getD-referred-right f d p k (omega arith)) in
     let inside : k < length (referred f d p) = omega (arith, length-referred f d p, c .pre .within) in
     record { bound = omega (arith, c .default-arm .ensures .bound); there = omega (arith, c .pre .arms k inside); value = is }

@@ -13,11 +13,12 @@ loop-k-again c =
     let inv = c .loop-k .inv in
     let w = c .write .ensures in
     let at = getD (c .args .places .now) (c .loop-k .k) 0 in
-    let written = w .nodes ∙ ap (set (c .loop-k .self .nodes .now) at) (c .under-node .ensures) in
-    ( w .same .0 ∙ inv .0,
+    let written = w .nodes ∙ ap (set (c .loop-k .self .nodes .now) at) (c .under-node .ensures) in (
+      w .same .0 ∙ inv .0,
       w .same .1 ∙ inv .1,
       w .same .2 ∙ inv .2,
       search needs,
       ap length written ∙ length-set (c .loop-k .self .nodes .now) at _ ∙ inv .4,
       λ j lt. ap (λ ns. getD ns j blank) written
-        ∙ adopt-more (state-of (c .args .self .now)) (c .args .places .now) (c .args .p) (c .loop-k .k) (omega arith) (c .loop-k .self .nodes .now) (inv .4) (inv .5) (c .pre .known (c .loop-k .k) (c .loop-k-test .taken)) j lt )
+          ∙ adopt-more (state-of (c .args .self .now)) (c .args .places .now) (c .args .p) (c .loop-k .k) (omega arith) (c .loop-k .self .nodes .now) (inv .4) (inv .5) (c .pre .known (c .loop-k .k) (c .loop-k-test .taken)) j lt,
+    )

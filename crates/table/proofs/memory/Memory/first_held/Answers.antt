@@ -27,12 +27,13 @@ loop-k-again c =
     let at = getD places k 0 in
     let within = c .loop-k-test .taken in
     let marked = c .has .ensures ∙ c .loop-k .inv .1 at (c .pre .few k within) in
-    let pushed = take-more places k 0 within in
-    ( passes (not-held (state-of (c .args .self .now))) places k within (sym (ap₂ (λ x y. x && not y) (c .is-free .ensures) marked) ∙ c .if-not-is-free-has .left) ∙ c .loop-k .inv .0,
+    let pushed = take-more places k 0 within in (
+      passes (not-held (state-of (c .args .self .now))) places k within (sym (ap₂ (λ x y. x && not y) (c .is-free .ensures) marked) ∙ c .if-not-is-free-has .left) ∙ c .loop-k .inv .0,
       λ j lt. ⊎-elim
-        (λ e. subst (λ i. getD (c .mark .last .self .marks) i false ≡ has (take (k + 1) places) i) (sym e) (c .mark .ensures .here ∙ sym (ap (λ xs. has xs at) pushed ∙ has-push-same (take k places) at)))
-        (λ ne. c .mark .ensures .others j ne ∙ c .loop-k .inv .1 j lt ∙ sym (ap (λ xs. has xs j) pushed ∙ has-push-other (take k places) at j (λ e. ne (sym e))))
-        (cases-eq j at) )
+          (λ e. subst (λ i. getD (c .mark .last .self .marks) i false ≡ has (take (k + 1) places) i) (sym e) (c .mark .ensures .here ∙ sym (ap (λ xs. has xs at) pushed ∙ has-push-same (take k places) at)))
+          (λ ne. c .mark .ensures .others j ne ∙ c .loop-k .inv .1 j lt ∙ sym (ap (λ xs. has xs j) pushed ∙ has-push-other (take k places) at j (λ e. ne (sym e))))
+          (cases-eq j at),
+    )
 
 pub returns : need.returns
 returns c = none-fails (not-held (state-of (c .args .self .now))) (c .args .places .now) (c .loop-k .k) (c .loop-k-test .left) ∙ c .loop-k .inv .0
