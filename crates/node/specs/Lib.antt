@@ -1,4 +1,5 @@
 pub mod Faults
+pub mod Flags
 pub mod Kinds
 pub mod Positions
 pub mod Shapes
