@@ -3,3 +3,4 @@ pub mod Flags
 pub mod Kinds
 pub mod Positions
 pub mod Shapes
+pub mod Texts
