@@ -6,3 +6,4 @@ pub mod Grows
 pub mod Fresh
 pub mod Tests
 pub mod Reads
+pub mod Puts

@@ -1,18 +1,17 @@
 //! The tests of a put on the children that are handed in, and what they come to.
 ghost use Prim.Native.Nat.{ℕ, _+_, _<_, _≤_};
 ghost use Rattle.draft.specs.Fits.{same};
-ghost use Rattle.table.specs.Facts.{is-stmt, known, takes-stmt};
+ghost use Rattle.table.specs.Facts.{is-stmt, known};
 ghost use Rattle.table.specs.State.{node-at, state-of, up-number};
-ghost use Rattle.table.specs.Tests.{first-failing, in-place, is-free, is-known, not-held};
-ghost use lib.Dec.{eqb};
+ghost use Rattle.table.specs.Tests.{first-failing, is-free, is-known, not-held, sorted-at};
+ghost use lib.Dec.{eqb, leb, ltb};
 ghost use lib.ListN.{getD, length};
-ghost use mathlib.Core.Bool.{Bool};
+ghost use mathlib.Core.Bool.{Bool, _&&_};
 ghost use mathlib.Core.List.{[]};
 ghost use mathlib.Core.Path.{_≡_};
 use crate::memory::Memory;
 use crate::seen::Seen;
 use node::kinds::Kind;
-use node::records::Parts;
 use node::records::Up;
 
 fn is_stmt(kind: Kind) -> bool
@@ -24,12 +23,11 @@ fn is_stmt(kind: Kind) -> bool
     }
 }
 
-// Whether a part takes statements at the k-th child.
-fn takes_stmt(parts: &Parts, k: usize) -> bool
-    ensures { λ r. ⌜ r ≡ takes-stmt (now (parts .entry)) k ⌝ }
+// Whether statements stand at a number: they do from one number until another.
+fn takes_stmt(from: usize, until: usize, k: usize) -> bool
+    ensures { λ r. ⌜ r ≡ leb from k && ltb k until ⌝ }
 {
-    let head = parts.head as usize;
-    head <= k && k < head + parts.body as usize + parts.branch as usize
+    from <= k && k < until
 }
 
 fn no_parent(up: Up) -> bool
@@ -56,13 +54,13 @@ impl Memory<'_> {
     }
 
     // The first place at which a statement stands for an expression, or the other way round.
-    pub(crate) fn first_misplaced(&self, parts: &Parts, places: &[usize]) -> Option<usize>
+    pub(crate) fn first_misplaced(&self, from: usize, until: usize, places: &[usize]) -> Option<usize>
         requires known { ⌜ ((k : ℕ) → k < length (now places) → getD (now places) k 0 < length (now (now self .nodes))) ⌝ }
-        ensures { λ r. ⌜ r ≡ first-failing (in-place (state-of (now (self .entry))) (now (parts .entry))) [] (now (places .entry)) ⌝ }
+        ensures { λ r. ⌜ r ≡ first-failing (sorted-at (state-of (now (self .entry))) from until) [] (now (places .entry)) ⌝ }
     {
         for k in 0..places.len() {
             let place = places[k];
-            if !self.stands_well(place, parts, k) {
+            if !self.stands_well(place, from, until, k) {
                 return Some(place);
             }
         }
@@ -93,12 +91,12 @@ impl Memory<'_> {
     }
 
     // Whether a node is of the sort that a part takes at its k-th child.
-    fn stands_well(&self, place: usize, parts: &Parts, k: usize) -> bool
+    fn stands_well(&self, place: usize, from: usize, until: usize, k: usize) -> bool
         requires { ⌜ place < length (now (now self .nodes)) ⌝ }
-        ensures { λ r. ⌜ r ≡ same (is-stmt (node-at (state-of (now (self .entry))) place .details .kind)) (takes-stmt (now (parts .entry)) k) ⌝ }
+        ensures { λ r. ⌜ r ≡ same (is-stmt (node-at (state-of (now (self .entry))) place .details .kind)) (leb from k && ltb k until) ⌝ }
     {
         let stmt = is_stmt(self.nodes[place].details.kind);
-        if takes_stmt(parts, k) { stmt } else { !stmt }
+        if takes_stmt(from, until, k) { stmt } else { !stmt }
     }
 
     // Whether a node stands under nothing.

@@ -4,6 +4,7 @@ mod children;
 mod grows;
 mod measures;
 pub mod memory;
+mod puts;
 pub mod reads;
 mod seen;
 pub mod tables;
