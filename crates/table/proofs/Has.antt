@@ -11,10 +11,10 @@ use Rattle.std.proofs.shelf.Tests.{eqb-true, eqb-false, eq-eqb, ne-eqb, cases-b
 use Rattle.table.specs.State.{has, distinct}
 
 -- a head that is the place, or is not
-head-is : (x : ℕ) (xs : List ℕ) (j : ℕ) → x ≡ j → has (x ∷ xs) j ≡ true
+pub head-is : (x : ℕ) (xs : List ℕ) (j : ℕ) → x ≡ j → has (x ∷ xs) j ≡ true
 head-is x xs j e = cond-true (eqb x j) _ _ (eq-eqb x j e)
 
-head-not : (x : ℕ) (xs : List ℕ) (j : ℕ) → (x ≡ j → ⊥) → has (x ∷ xs) j ≡ has xs j
+pub head-not : (x : ℕ) (xs : List ℕ) (j : ℕ) → (x ≡ j → ⊥) → has (x ∷ xs) j ≡ has xs j
 head-not x xs j ne = cond-false (eqb x j) _ _ (ne-eqb x j ne)
 
 cond-same : (b : Bool) → cond b true true ≡ true

@@ -5,3 +5,5 @@ pub mod Has
 pub mod Agree
 pub mod Kept
 pub mod Failing
+pub mod Keys
+pub mod Pigeons
