@@ -7,3 +7,4 @@ pub mod Kept
 pub mod Failing
 pub mod Keys
 pub mod Pigeons
+pub mod Passed

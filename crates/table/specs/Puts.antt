@@ -120,10 +120,12 @@ keys-fit extra.Arms text keys = true
 keys-fit extra.Shared text keys = true
 
 -- fault 5: parts and data that do not fit the kind; then the first child that is a statement for an expression or the other way round
+abbrev pub extras-fit : Extra → List ℕ → Draft → List ℕ → List RawIdent → Bool
+extras-fit x text d places idents = all has-position idents && all (λ arm. ltb arm (d .arms)) (drop (draft-fits.kids d) places) && keys-fit x text idents
+
 abbrev pub parts-fit : List ℕ → Draft → List ℕ → List RawIdent → Bool
 parts-fit text d places idents =
-    fits (shape-of (kind-of (d .kind))) d (length places) (length idents)
-    && all has-position idents && all (λ arm. ltb arm (d .arms)) (drop (draft-fits.kids d) places) && keys-fit (shape-of (kind-of (d .kind)) .extra) text idents
+    fits (shape-of (kind-of (d .kind))) d (length places) (length idents) && extras-fit (shape-of (kind-of (d .kind)) .extra) text d places idents
 
 abbrev pub due-fit : List ℕ → Draft → List ℕ → List RawIdent → Option TableFault
 due-fit text d places idents = unless (parts-fit text d places idents) (Misfit 0)

@@ -1,14 +1,21 @@
 //! Putting a node: the refusals in the order of their numbers, then the writes.
 ghost use Prim.Native.Nat.{ℕ, _<_};
-ghost use Rattle.draft.specs.Fits.{handed};
-ghost use Rattle.table.specs.Puts.{due-held, due-known, due-place, due-range, due-text, kid-list, stored-due};
+ghost use Rattle.draft.specs.Details.{kind-of};
+ghost use Rattle.draft.specs.Drafts.{in-range, kind-in-range};
+ghost use Rattle.draft.specs.Fits.{handed, kids as draft-kids};
+ghost use Rattle.table.specs.Puts.{due-fit, due-held, due-known, due-place, due-range, due-text, extras-fit, keys-fit, kid-list, stored-due};
 ghost use Rattle.table.specs.State.{state-of};
-ghost use lib.ListN.{getD, length};
+ghost use lib.ListN.{drop, getD, length};
+ghost use mathlib.Core.Bool.{true};
 ghost use mathlib.Core.Path.{_≡_};
 use crate::memory::Memory;
 use draft::drafts::Draft;
 use draft::drafts::RawConstant;
 use draft::drafts::RawIdent;
+use draft::drafts::RawKind;
+use draft::keys::keys_distinct;
+use draft::lists::Below;
+use draft::lists::HasPosition;
 use draft::lists::InRange;
 use draft::lists::InRangeTest;
 use draft::lists::Within;
@@ -17,6 +24,12 @@ use draft::lists::every;
 use node::faults::StoreFault;
 use node::faults::TableFault;
 use node::faults::TextFault;
+use node::kinds::ExprKind;
+use node::kinds::Kind;
+use node::kinds::StmtKind;
+use node::shapes::Extra;
+use draft::lists::BelowTest;
+use draft::lists::HasPositionTest;
 
 // The children of a draft among the places handed in with it.
 fn kid_places<'p>(draft: &Draft, places: &'p [usize]) -> &'p [usize]
@@ -63,6 +76,58 @@ fn text_refusal(text: usize, draft: &Draft, idents: &[RawIdent]) -> Option<Table
     } else {
         Some(TableFault::Text(TextFault { place: 0 }, 0))
     }
+}
+
+// Whether keys, where the kind has them, are told apart by their bytes.
+fn keys_fit(extra: Extra, text: &[u8], idents: &[RawIdent]) -> bool
+    ensures { λ r. ⌜ r ≡ keys-fit extra (now (text .entry)) (now (idents .entry)) ⌝ }
+{
+    match extra {
+        Extra::Keys => keys_distinct(text, idents),
+        Extra::None | Extra::Arms | Extra::Shared => true,
+    }
+}
+
+// The kind of a draft whose numbers are in range.
+fn kind_of(draft: &Draft) -> Kind
+    requires { ⌜ kind-in-range (now draft .kind) ≡ true ⌝ }
+    ensures { λ r. ⌜ r ≡ kind-of (now (draft .entry) .kind) ⌝ }
+{
+    match draft.kind {
+        RawKind::Stmt(number) => Kind::Stmt(StmtKind::from_number(number).unwrap()),
+        RawKind::Expr(number) => Kind::Expr(ExprKind::from_number(number).unwrap()),
+    }
+}
+
+// The references of a draft among the places handed in with it.
+fn reference_places<'p>(draft: &Draft, places: &'p [usize]) -> &'p [usize]
+    requires { ⌜ handed (now draft) ≡ length (now places) ⌝ }
+    ensures { λ r. ⌜ now r ≡ drop (draft-kids (now (draft .entry))) (now (places .entry)) ⌝ }
+{
+    let kids = draft.head + draft.body + draft.branch + draft.arms + draft.arms;
+    &places[kids..places.len()]
+}
+
+// Whether names in links, references and keys are what the kind asks for.
+fn extras_fit(extra: Extra, text: &[u8], draft: &Draft, places: &[usize], idents: &[RawIdent]) -> bool
+    requires { ⌜ handed (now draft) ≡ length (now places) ⌝ }
+    ensures { λ r. ⌜ r ≡ extras-fit extra (now (text .entry)) (now (draft .entry)) (now (places .entry)) (now (idents .entry)) ⌝ }
+{
+    let below = Below { arms: draft.arms };
+    every(&HasPosition, idents) & every(&below, reference_places(draft, places)) & keys_fit(extra, text, idents)
+}
+
+fn fit_refusal(text: &[u8], draft: &Draft, places: &[usize], idents: &[RawIdent]) -> Option<TableFault>
+    requires { ⌜ kind-in-range (now draft .kind) ≡ true ⌝ }
+    ensures { λ r. ⌜ r ≡ due-fit (now (text .entry)) (now (draft .entry)) (now (places .entry)) (now (idents .entry)) ⌝ }
+{
+    let shape = kind_of(draft).shape();
+    if draft.fits(shape, places.len(), idents.len()) {
+        if extras_fit(shape.extra, text, draft, places, idents) {
+            return None;
+        }
+    }
+    Some(TableFault::Misfit(0))
 }
 
 impl Memory<'_> {
