@@ -29,7 +29,7 @@ module _ (test : List ℕ → ℕ → Bool) (places : List ℕ) (k : ℕ) (withi
 pub none-fails : (test : List ℕ → ℕ → Bool) (places : List ℕ) (k : ℕ) → length places ≤ k → None ≡ first-failing test (take k places) (drop k places)
 none-fails test places k past = sym (at-drop-all (first-failing test (take k places)) places k past)
 
-some-none : {X : Type 0} {x : X} → Some x ≡ None → ⊥
+pub some-none : {X : Type 0} {x : X} → Some x ≡ None → ⊥
 some-none e = let z : _≡_ {A = ℕ} 0 1 = cc in omega arith
 
 -- where no place fails, each passed

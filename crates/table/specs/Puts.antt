@@ -144,3 +144,13 @@ due-size s d places = unless (leb (height-of s d places) 64 && leb (lines-of s d
 -- fault 8: no node or too few links left
 abbrev pub due-room : State → Draft → ℕ → Option TableFault
 due-room s d idents = unless (ltb (s .used) (min (length (s .nodes)) 4096) && leb (s .linked + total (parts-of d 0 idents)) (min (length (s .links)) 8192)) (Full 0)
+
+-- the refusals that are due before any count is made, in the order of their numbers
+abbrev pub due-before : State → List ℕ → Draft → List ℕ → List RawIdent → ℕ → Option TableFault
+due-before s text d places idents values =
+    or-else (due-known s d places) (or-else (stored-due values (d .constant)) (or-else (due-range d idents) (or-else (due-text (length text) d idents)
+    (or-else (due-fit text d places idents) (or-else (due-place s d places) (due-held s d places))))))
+
+-- the refusal of a put: the first that is due in the order of the numbers
+abbrev pub put-refusal : State → List ℕ → Draft → List ℕ → List RawIdent → ℕ → Option TableFault
+put-refusal s text d places idents values = or-else (due-before s text d places idents values) (or-else (due-size s d places) (due-room s d (length idents)))

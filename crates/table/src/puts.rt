@@ -3,7 +3,8 @@ ghost use Prim.Native.Nat.{ℕ, _<_};
 ghost use Rattle.draft.specs.Details.{kind-of};
 ghost use Rattle.draft.specs.Drafts.{in-range, kind-in-range};
 ghost use Rattle.draft.specs.Fits.{handed, kids as draft-kids};
-ghost use Rattle.table.specs.Puts.{due-fit, due-held, due-known, due-place, due-range, due-text, extras-fit, keys-fit, kid-list, stored-due};
+ghost use Rattle.table.specs.Facts.{NodesFit};
+ghost use Rattle.table.specs.Puts.{due-before, due-fit, due-held, due-known, due-place, due-range, due-text, extras-fit, keys-fit, kid-list, stored-due};
 ghost use Rattle.table.specs.State.{state-of};
 ghost use lib.ListN.{drop, getD, length};
 ghost use mathlib.Core.Bool.{true};
@@ -161,5 +162,31 @@ impl Memory<'_> {
             Some(place) => Some(TableFault::Held(place)),
             None => None,
         }
+    }
+
+    // The refusal that is due before any count is made.
+    fn refusal_before(&self, text: &[u8], draft: &Draft, places: &[usize], idents: &[RawIdent], values: usize) -> Option<TableFault>
+        requires { ⌜ NodesFit (state-of (now self)) ⌝ }
+        ensures { λ r. ⌜ r ≡ due-before (state-of (now (self .entry))) (now (text .entry)) (now (draft .entry)) (now (places .entry)) (now (idents .entry)) values ⌝ }
+    {
+        if let Some(fault) = self.known_refusal(draft, places) {
+            return Some(fault);
+        }
+        if let Some(fault) = stored_refusal(draft.constant, values) {
+            return Some(fault);
+        }
+        if let Some(fault) = range_refusal(draft, idents) {
+            return Some(fault);
+        }
+        if let Some(fault) = text_refusal(text.len(), draft, idents) {
+            return Some(fault);
+        }
+        if let Some(fault) = fit_refusal(text, draft, places, idents) {
+            return Some(fault);
+        }
+        if let Some(fault) = self.sort_refusal(draft, places) {
+            return Some(fault);
+        }
+        self.held_refusal(draft, places)
     }
 }
