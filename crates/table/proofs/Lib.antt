@@ -8,3 +8,4 @@ pub mod Failing
 pub mod Keys
 pub mod Pigeons
 pub mod Passed
+pub mod Sized

@@ -74,12 +74,12 @@ abbrev pub or-else : Option TableFault → Option TableFault → Option TableFau
 or-else None b = b
 or-else (Some f) b = Some f
 
--- fault 2: a child that is no node; then a stored constant that the store, which has so many values, has not
+-- fault 2: a child that is no node; then a stored constant that the store, which has so many values and at most 4,096, has not
 abbrev pub due-known : State → Draft → List ℕ → Option TableFault
 due-known s d places = mapped Missing (first-failing (is-known s) [] (kid-list d places))
 
 abbrev pub constant-due : ℕ → RawConstant → Option TableFault
-constant-due values (raw.Stored place) = unless (ltb place values) (Store (store.Missing place) 0)
+constant-due values (raw.Stored place) = unless (ltb place (min values 4096)) (Store (store.Missing place) 0)
 constant-due values (raw.Bool b) = None
 constant-due values (raw.Integer i) = None
 constant-due values (raw.Float x) = None

@@ -7,5 +7,6 @@ pub mod memory;
 mod puts;
 pub mod reads;
 mod seen;
+mod sizes;
 pub mod tables;
 pub mod trees;

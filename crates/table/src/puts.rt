@@ -49,7 +49,7 @@ fn stored_refusal(constant: Option<RawConstant>, values: usize) -> Option<TableF
 {
     match constant {
         Some(RawConstant::Stored(place)) => {
-            if place < values {
+            if place < values.min(4096) {
                 None
             } else {
                 Some(TableFault::Store(StoreFault::Missing(place), 0))
