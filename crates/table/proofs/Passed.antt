@@ -45,7 +45,7 @@ fit-parts x d places idents e =
     let i = and-parts _ _ (h .0) in
     record { counted = eqb-true (handed d) places (i .0); head = i .1; blocks = h .1; extra = g .1; value = f .1; names = c .1 }
 
-unless-none : (b : Bool) (f : TableFault) → unless b f ≡ None → b ≡ true
+pub unless-none : (b : Bool) (f : TableFault) → unless b f ≡ None → b ≡ true
 unless-none true f e = refl
 unless-none false f e = absurd (some-none e)
 
