@@ -9,4 +9,4 @@ pub mod Keys
 pub mod Pigeons
 pub mod Passed
 pub mod Sized
-pub mod Accepts
+pub mod Fitting

@@ -154,3 +154,11 @@ due-before s text d places idents values =
 -- the refusal of a put: the first that is due in the order of the numbers
 abbrev pub put-refusal : State → List ℕ → Draft → List ℕ → List RawIdent → ℕ → Option TableFault
 put-refusal s text d places idents values = or-else (due-before s text d places idents values) (or-else (due-size s d places) (due-room s d (length idents)))
+
+-- A put that is due a refusal is refused with it, and the memory is what it was. Any other puts the node at the
+-- first unused place, which it answers.
+abbrev pub Put : State → List ℕ → Draft → List ℕ → List RawIdent → ℕ → Result ℕ TableFault → State → Type 0
+Put s text d places idents values (Ok at) s′ =
+    (put-refusal s text d places idents values ≡ None) × (at ≡ s .used)
+    × Grown s s′ (node-of s d places (length idents)) (kid-list d places) (new-link places idents) (total (parts-of d 0 (length idents)))
+Put s text d places idents values (Err f) s′ = (put-refusal s text d places idents values ≡ Some f) × (s′ ≡ s)

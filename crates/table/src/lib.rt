@@ -1,4 +1,5 @@
 //! The script table: nodes of a script's tree in lent memory.
+mod accepts;
 mod checks;
 mod children;
 mod grows;

@@ -165,7 +165,7 @@ impl Memory<'_> {
     }
 
     // The refusal that is due before any count is made.
-    fn refusal_before(&self, text: &[u8], draft: &Draft, places: &[usize], idents: &[RawIdent], values: usize) -> Option<TableFault>
+    pub(crate) fn refusal_before(&self, text: &[u8], draft: &Draft, places: &[usize], idents: &[RawIdent], values: usize) -> Option<TableFault>
         requires { ⌜ NodesFit (state-of (now self)) ⌝ }
         ensures { λ r. ⌜ r ≡ due-before (state-of (now (self .entry))) (now (text .entry)) (now (draft .entry)) (now (places .entry)) (now (idents .entry)) values ⌝ }
     {

@@ -2,6 +2,7 @@
 ghost use Prim.Native.Nat.{ℕ, _+_, _<_, _≤_};
 ghost use Rattle.draft.specs.Details.{details-of};
 ghost use Rattle.node.specs.declared.faults.TableFault.the-variants.{Size};
+ghost use Rattle.node.specs.declared.records.Up.the-variants.{Nothing};
 ghost use Rattle.std.specs.Results.{Cases};
 ghost use Rattle.std.specs.declared.option.Option.the-variants.{None, Some};
 ghost use Rattle.table.specs.Facts.{Sound};
@@ -16,7 +17,9 @@ use crate::memory::Memory;
 use draft::drafts::Draft;
 use node::faults::TableFault;
 use node::records::Details;
+use node::records::Node;
 use node::records::Parts;
+use node::records::Up;
 use node::shapes::Extra;
 
 // How many links shared names take.
@@ -30,7 +33,7 @@ pub(crate) fn shared_count(extra: Extra, idents: usize) -> usize
 }
 
 // The parts of a draft, whose counts fit.
-pub(crate) fn narrow(draft: &Draft, start: usize, shared: usize) -> Parts
+fn narrow(draft: &Draft, start: usize, shared: usize) -> Parts
     requires start { ⌜ start ≤ 65535 ⌝ }
     requires shared { ⌜ shared ≤ 65535 ⌝ }
     requires kids { ⌜ now draft .head + now draft .body + now draft .branch + now draft .arms ≤ 65535 ⌝ }
@@ -46,6 +49,25 @@ pub(crate) fn narrow(draft: &Draft, start: usize, shared: usize) -> Parts
         values: draft.values as u16,
         ranges: draft.ranges as u16,
         shared: shared as u16,
+    }
+}
+
+// The record of a node to be put, which stands under nothing.
+pub(crate) fn made(draft: &Draft, details: Details, start: usize, shared: usize, size: Measure) -> Node
+    requires start { ⌜ start ≤ 65535 ⌝ }
+    requires shared { ⌜ shared ≤ 65535 ⌝ }
+    requires kids { ⌜ now draft .head + now draft .body + now draft .branch + now draft .arms ≤ 65535 ⌝ }
+    requires references { ⌜ now draft .values + now draft .ranges ≤ 65535 ⌝ }
+    requires height { ⌜ size .height ≤ 64 ⌝ }
+    requires lines { ⌜ size .lines ≤ 65535 ⌝ }
+    ensures { λ r. ⌜ r ≡ record { details = details; parts = record { start = start; head = now (draft .entry) .head; body = now (draft .entry) .body; branch = now (draft .entry) .branch; arms = now (draft .entry) .arms; values = now (draft .entry) .values; ranges = now (draft .entry) .ranges; shared = shared }; up = Nothing; height = size .height; lines = size .lines } ⌝ }
+{
+    Node {
+        details,
+        parts: narrow(draft, start, shared),
+        up: Up::Nothing,
+        height: size.height as u16,
+        lines: size.lines as u16,
     }
 }
 

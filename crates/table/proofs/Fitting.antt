@@ -1,5 +1,5 @@
 -- What is known of a draft that no refusal is due for before counts are made. Assumes nothing.
-use mathlib.Core.Bool.{Bool, true, false, _&&_, not}
+use mathlib.Core.Bool.{Bool, true, false, _&&_, not, cond}
 use mathlib.Core.List.{List, [], _∷_, _++_}
 use mathlib.Core.Logic.{_⊎_, inl, inr, ⊎-elim}
 use mathlib.Core.Path.{_≡_, refl, sym, ap, subst, _∙_}
@@ -8,7 +8,7 @@ use Prim.Native.Nat.{ℕ, zero, suc, _+_, _-_, _<_, _≤_, min}
 use lib.Dec.{eqb, leb, ltb}
 use lib.ListN.{length, getD, take, drop}
 use Rattle.std.proofs.shelf.Lists.{length-take-le, getD-take, getD-drop, length-drop}
-use Rattle.std.proofs.shelf.Tests.{and-parts, and-from, leb-true, le-leb, ltb-true, lt-ltb, eqb-true, not-true, cases-lt, both-ways}
+use Rattle.std.proofs.shelf.Tests.{cond-true, and-parts, and-from, leb-true, le-leb, ltb-true, lt-ltb, eqb-true, not-true, cases-lt, both-ways}
 use Rattle.std.specs.Options.{isSome}
 use Rattle.std.specs.declared.option.Option.{Option}
 use Rattle.std.specs.declared.option.Option.the-variants.{Some, None}
@@ -24,12 +24,18 @@ use Rattle.draft.specs.declared.drafts.RawIdent.{RawIdent}
 use Rattle.draft.specs.declared.drafts.RawRun.{RawRun}
 use Rattle.node.specs.Shapes.{shape-of}
 use Rattle.node.specs.declared.positions.RawPosition.{RawPosition}
+use Rattle.node.specs.declared.records.Details.{Details}
+use Rattle.node.specs.declared.records.Node.{Node}
+use Rattle.node.specs.declared.records.Up.the-variants as up
+use Rattle.node.specs.declared.faults.TableFault.{TableFault}
+use Rattle.node.specs.declared.faults.TableFault.the-variants.{Full}
+use Rattle.node.specs.declared.shapes.Shape.{Shape}
 use Rattle.node.specs.declared.shapes.Extra.{Extra}
 use Rattle.node.specs.declared.shapes.Extra.the-variants as extra
 use Rattle.table.specs.Facts.{NodesFit}
 use Rattle.table.specs.Fresh.{Ready}
-use Rattle.table.specs.Puts.{kid-list, parts-of, handed-in, due-before, due-known, due-range, due-text, due-fit, due-place, due-held, stored-due, extras-fit, or-else, unless}
-use Rattle.table.specs.State.{State, referred, default-of, references, has, distinct, node-at, up-number}
+use Rattle.table.specs.Puts.{kid-list, parts-of, handed-in, due-before, due-known, due-range, due-text, due-fit, due-place, due-held, stored-due, extras-fit, or-else, unless, shared-of, due-room, due-size, put-refusal, height-of, lines-of, node-of}
+use Rattle.table.specs.State.{State, total, referred, default-of, references, has, distinct, node-at, up-number}
 use Rattle.table.specs.Tests.{in-place, not-held, is-free}
 use Rattle.table.proofs.Elements.{all-at}
 use Rattle.table.proofs.Failing.{apart-distinct, some-none}
@@ -173,3 +179,38 @@ module _ (s : State) (text : List ℕ) (d : Draft) (places : List ℕ) (idents :
 
   pub kids-placed : (k : ℕ) → k < draft-kids d → in-place s (parts-of d 0 0) (take k (kid-list d places)) (getD (kid-list d places) k 0) ≡ true
   kids-placed k lt = place-passed s d places (nd .placed) k (omega (arith, listed))
+
+  pub details-kept : length text ≤ 65535 → (r : Option Details) → r ≡ cond (in-range d && runs-within 65535 d && small d) (Some (details-of d)) None → r ≡ Some (details-of d)
+  details-kept le r is =
+      is ∙ cond-true (in-range d && runs-within 65535 d && small d) _ _
+      (and-from _ _ (and-from _ _ (range-passed d idents (nd .range) .0) (runs-more (length text) le d (text-passed (length text) d idents (nd .texts) .0))) is-small)
+
+  -- the links that a draft needs: one for each place handed in and each shared name
+  abbrev shared : ℕ
+  shared = shared-of (shape-of (kind-of (d .kind)) .extra) (length idents)
+
+  pub shared-is : (x : Details) (y : Shape) (k : ℕ) → x ≡ details-of d → y ≡ shape-of (x .kind) → k ≡ shared-of (y .extra) (length idents) → k ≡ shared
+  shared-is x y k is shaped e = e ∙ ap (λ z. shared-of (z .extra) (length idents)) shaped ∙ ap (λ z. shared-of (shape-of (z .kind) .extra) (length idents)) is
+
+  needed : (k : ℕ) → k ≡ shared → length places + k ≡ total (parts-of d 0 (length idents))
+  needed k e = omega (arith, parts-fitting .counted)
+
+  pub room-is : (k : ℕ) → k ≡ shared → (r : Option TableFault)
+    → r ≡ unless (ltb (s .used) (min (length (s .nodes)) 4096) && leb (s .linked + (length places + k)) (min (length (s .links)) 8192)) (Full 0) → r ≡ due-room s d (length idents)
+  room-is k e r is = is ∙ ap (λ n. unless (ltb (s .used) (min (length (s .nodes)) 4096) && leb (s .linked + n) (min (length (s .links)) 8192)) (Full 0)) (needed k e)
+
+  pub refusal-is : due-size s d places ≡ None → put-refusal s text d places idents values ≡ due-room s d (length idents)
+  refusal-is size = ap (λ o. or-else o (or-else (due-size s d places) (due-room s d (length idents)))) none ∙ ap (λ o. or-else o (due-room s d (length idents))) size
+
+  -- what room there is, and what sizes are allowed
+  pub room-there : due-room s d (length idents) ≡ None → (s .used < min (length (s .nodes)) 4096) × (s .linked + total (parts-of d 0 (length idents)) ≤ min (length (s .links)) 8192)
+  room-there e = let p = and-parts _ _ (unless-none _ _ e) in (ltb-true _ _ (p .0), leb-true _ _ (p .1))
+
+  pub size-there : due-size s d places ≡ None → (height-of s d places ≤ 64) × (lines-of s d places ≤ 65535)
+  size-there e = let p = and-parts _ _ (unless-none _ _ e) in (leb-true _ _ (p .0), leb-true _ _ (p .1))
+
+  pub made-is : (x : Details) (k h l : ℕ) (n : Node)
+    → n ≡ record { details = x; parts = record { start = s .linked; head = d .head; body = d .body; branch = d .branch; arms = d .arms; values = d .values; ranges = d .ranges; shared = k }; up = up.Nothing; height = h; lines = l }
+    → x ≡ details-of d → k ≡ shared → h ≡ height-of s d places → l ≡ lines-of s d places → n ≡ node-of s d places (length idents)
+  made-is x k h l n is p q r t =
+      is ∙ (λ i. record { details = p i; parts = record { start = s .linked; head = d .head; body = d .body; branch = d .branch; arms = d .arms; values = d .values; ranges = d .ranges; shared = q i }; up = up.Nothing; height = r i; lines = t i })
