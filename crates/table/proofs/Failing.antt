@@ -38,7 +38,7 @@ all-passed test done [] e k lt = absurd (omega arith)
 all-passed test done (x ∷ xs) e k lt = go (all-passed test (done ++ x ∷ []) xs) k lt (cases-bool (test done x))
   where
     go : (first-failing test (done ++ x ∷ []) xs ≡ None → (j : ℕ) → j < length xs → test ((done ++ x ∷ []) ++ take j xs) (getD xs j 0) ≡ true)
-      → (i : ℕ) → i < suc (length xs) → (test done x ≡ true) ⊎ (test done x ≡ false) → test (done ++ take i (x ∷ xs)) (getD (x ∷ xs) i 0) ≡ true
+        → (i : ℕ) → i < suc (length xs) → (test done x ≡ true) ⊎ (test done x ≡ false) → test (done ++ take i (x ∷ xs)) (getD (x ∷ xs) i 0) ≡ true
     go rest i within (inr no′) = absurd (some-none (sym (cond-false (test done x) (first-failing test (done ++ x ∷ []) xs) (Some x) no′) ∙ e))
     go rest zero within (inl yes′) = ap (λ l. test l x) (append-nil done) ∙ yes′
     go rest (suc i) within (inl yes′) =
@@ -51,8 +51,8 @@ apart-distinct [] apart = refl
 apart-distinct (x ∷ xs) apart =
     and-from _ _
     (not-from-false _ (⊎-elim
-      (λ t. let r = has-place xs x 0 t in absurd (both-ways _ (apart (suc (r .0)) (omega (arith, r .1))) (head-is x (take (r .0) xs) (getD xs (r .0) 0) (sym (r .2)))))
-      (λ f. f) (cases-bool (has xs x))))
+    (λ t. let r = has-place xs x 0 t in absurd (both-ways _ (apart (suc (r .0)) (omega (arith, r .1))) (head-is x (take (r .0) xs) (getD xs (r .0) 0) (sym (r .2)))))
+    (λ f. f) (cases-bool (has xs x))))
     (apart-distinct xs (λ k lt. later k lt (apart (suc k) (omega arith))))
   where
     later : (k : ℕ) → k < length xs → has (x ∷ take k xs) (getD xs k 0) ≡ false → has (take k xs) (getD xs k 0) ≡ false

@@ -15,7 +15,7 @@ use Rattle.std.specs.declared.option.Option.the-variants.{Some, None}
 use Rattle.draft.proofs.Conjuncts.{in-range-parts, within-parts}
 use Rattle.draft.specs.Details.{details-of, kind-of, second-of, small, small-constant}
 use Rattle.draft.specs.Drafts.{in-range, runs-within, if-given, ident-in-range, ident-within, constant-within, run-within}
-use Rattle.draft.specs.Fits.{fits, handed, kids as draft-kids, fits-extra, no-arms, default-fits}
+use Rattle.draft.specs.Fits.{fits, handed, kids as draft-kids, fits-extra, no-arms, default-fits, same}
 use Rattle.draft.specs.Lists.{all}
 use Rattle.draft.specs.declared.drafts.Draft.{Draft}
 use Rattle.draft.specs.declared.drafts.RawConstant.{RawConstant}
@@ -33,7 +33,8 @@ use Rattle.node.specs.declared.shapes.Shape.{Shape}
 use Rattle.node.specs.declared.shapes.Extra.{Extra}
 use Rattle.node.specs.declared.shapes.Extra.the-variants as extra
 use Rattle.table.specs.Facts.{NodesFit}
-use Rattle.table.specs.Fresh.{Ready}
+use Rattle.table.specs.Fresh.{Fresh, Ready}
+use Rattle.table.specs.Grows.{new-link}
 use Rattle.table.specs.Puts.{kid-list, parts-of, handed-in, due-before, due-known, due-range, due-text, due-fit, due-place, due-held, stored-due, extras-fit, or-else, unless, shared-of, due-room, due-size, put-refusal, height-of, lines-of, node-of}
 use Rattle.table.specs.State.{State, total, referred, default-of, references, has, distinct, node-at, up-number}
 use Rattle.table.specs.Tests.{in-place, not-held, is-free}
@@ -55,7 +56,7 @@ default-low extra.Arms d idents e a is = ltb-true a (d .arms) (sym (ap (if-given
 default-low extra.Shared d idents e a is = absurd (no-default d a is (and-parts _ _ e .0))
 
 default-there : (name : Option RawIdent) (space : Option RawPosition) (df : Option ℕ) (arms : ℕ) → ((a : ℕ) → df ≡ Some a → a < arms)
-  → (j : ℕ) → j < length (default-of (second-of name space df)) → getD (default-of (second-of name space df)) j 0 < arms
+    → (j : ℕ) → j < length (default-of (second-of name space df)) → getD (default-of (second-of name space df)) j 0 < arms
 default-there (Some i) space df arms low j lt = absurd (omega arith)
 default-there None (Some q) df arms low j lt = absurd (omega arith)
 default-there None None None arms low j lt = absurd (omega arith)
@@ -163,7 +164,7 @@ module _ (s : State) (text : List ℕ) (d : Draft) (places : List ℕ) (idents :
   arms-below k lt = ⊎-elim
       (λ less. subst (λ x. x < d .arms) (sym (getD-referred-left (handed-in places) (details-of d) (parts-of d 0 0) k less)) (below k less))
       (λ more. subst (λ x. x < d .arms) (sym (getD-referred-right (handed-in places) (details-of d) (parts-of d 0 0) k more))
-        (default-there (d .second) (d .namespace) (d .default) (d .arms) default-names (k - references (parts-of d 0 0)) (omega (arith, length-referred (handed-in places) (details-of d) (parts-of d 0 0)))))
+      (default-there (d .second) (d .namespace) (d .default) (d .arms) default-names (k - references (parts-of d 0 0)) (omega (arith, length-referred (handed-in places) (details-of d) (parts-of d 0 0)))))
       (cases-lt k (references (parts-of d 0 0)))
 
   pub ready : Ready s d places
@@ -196,7 +197,7 @@ module _ (s : State) (text : List ℕ) (d : Draft) (places : List ℕ) (idents :
   needed k e = omega (arith, parts-fitting .counted)
 
   pub room-is : (k : ℕ) → k ≡ shared → (r : Option TableFault)
-    → r ≡ unless (ltb (s .used) (min (length (s .nodes)) 4096) && leb (s .linked + (length places + k)) (min (length (s .links)) 8192)) (Full 0) → r ≡ due-room s d (length idents)
+      → r ≡ unless (ltb (s .used) (min (length (s .nodes)) 4096) && leb (s .linked + (length places + k)) (min (length (s .links)) 8192)) (Full 0) → r ≡ due-room s d (length idents)
   room-is k e r is = is ∙ ap (λ n. unless (ltb (s .used) (min (length (s .nodes)) 4096) && leb (s .linked + n) (min (length (s .links)) 8192)) (Full 0)) (needed k e)
 
   pub refusal-is : due-size s d places ≡ None → put-refusal s text d places idents values ≡ due-room s d (length idents)
@@ -210,7 +211,48 @@ module _ (s : State) (text : List ℕ) (d : Draft) (places : List ℕ) (idents :
   size-there e = let p = and-parts _ _ (unless-none _ _ e) in (leb-true _ _ (p .0), leb-true _ _ (p .1))
 
   pub made-is : (x : Details) (k h l : ℕ) (n : Node)
-    → n ≡ record { details = x; parts = record { start = s .linked; head = d .head; body = d .body; branch = d .branch; arms = d .arms; values = d .values; ranges = d .ranges; shared = k }; up = up.Nothing; height = h; lines = l }
-    → x ≡ details-of d → k ≡ shared → h ≡ height-of s d places → l ≡ lines-of s d places → n ≡ node-of s d places (length idents)
+      → n ≡ record { details = x; parts = record { start = s .linked; head = d .head; body = d .body; branch = d .branch; arms = d .arms; values = d .values; ranges = d .ranges; shared = k }; up = up.Nothing; height = h; lines = l }
+      → x ≡ details-of d → k ≡ shared → h ≡ height-of s d places → l ≡ lines-of s d places → n ≡ node-of s d places (length idents)
   made-is x k h l n is p q r t =
       is ∙ (λ i. record { details = p i; parts = record { start = s .linked; head = d .head; body = d .body; branch = d .branch; arms = d .arms; values = d .values; ranges = d .ranges; shared = q i }; up = up.Nothing; height = r i; lines = t i })
+
+  same-true : (x y : Bool) → same x y ≡ true → x ≡ y
+  same-true true y e = sym e
+  same-true false y e = sym (not-true y e)
+
+  -- so the node may be put
+  module _ (size : due-size s d places ≡ None) (space : due-room s d (length idents) ≡ None) where
+    pub fresh : Fresh s (node-of s d places (length idents)) (kid-list d places) (new-link places idents) (total (parts-of d 0 (length idents)))
+    fresh = record {
+      start = refl;
+      counted = refl;
+      listed = listed;
+      links = λ k lt. sym (kid-is k lt);
+      nodes-fit = room-there space .0;
+      links-fit = room-there space .1;
+      known = kids-known;
+      free = kids-free;
+      once = kids-once;
+      sorted = λ k lt.
+          let long : length (take k (kid-list d places)) ≡ k = length-take-le k (kid-list d places) (omega (arith, listed)) in
+          same-true _ _ (kids-placed k lt) ∙ ap (λ i. leb (d .head) i && ltb i (d .head + d .body + d .branch)) long;
+      arms = arms-below;
+      height = refl;
+      height-fits = size-there size .0;
+      lines = refl;
+      lines-fit = size-there size .1;
+      alone = refl;
+    }
+
+    pub small-places : (j : ℕ) → j < length places → getD places j 0 < 65536
+    small-places j lt = ⊎-elim
+        (λ less. omega (arith, ready .children j less, room))
+        (λ more. let ref = below (j - draft-kids d) (omega (arith, parts-fitting .counted)) in
+        omega (arith, subst (λ i. getD places i 0 < d .arms) {x = draft-kids d + (j - draft-kids d)} {y = j} (omega arith) ref, few))
+        (cases-lt j (draft-kids d))
+
+  pub idents-range : all ident-in-range idents ≡ true
+  idents-range = range-passed d idents (nd .range) .1
+
+  pub idents-within : length text ≤ 65535 → all (ident-within 65535) idents ≡ true
+  idents-within le = idents-more (length text) le idents (text-passed (length text) d idents (nd .texts) .1)

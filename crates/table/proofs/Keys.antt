@@ -33,7 +33,7 @@ module _ (text : List ℕ) where
   among-at bytes (key ∷ keys) e = go (among-at bytes keys) (or-cases _ _ e)
     where
       go : (key-among text bytes keys ≡ true → (k : ℕ) × (k < length keys) × (bytes ≡ key-at text keys k)) → (same-bytes bytes (key-bytes text key) ≡ true) ⊎ (key-among text bytes keys ≡ true)
-        → (k : ℕ) × (k < suc (length keys)) × (bytes ≡ key-at text (key ∷ keys) k)
+          → (k : ℕ) × (k < suc (length keys)) × (bytes ≡ key-at text (key ∷ keys) k)
       go rest (inl here) = (0, omega arith, same-true bytes (key-bytes text key) here)
       go rest (inr there) = let r = rest there in (suc (r .0), omega (arith, r .1), r .2)
 

@@ -77,5 +77,5 @@ pub text-passed : (text : ℕ) (d : Draft) (idents : List RawIdent) → due-text
 text-passed text d idents e = and-parts _ _ (unless-none _ _ e)
 
 pub fit-passed : (text : List ℕ) (d : Draft) (places : List ℕ) (idents : List RawIdent) → due-fit text d places idents ≡ None
-  → (fits (shape-of (kind-of (d .kind))) d (length places) (length idents) ≡ true) × (extras-fit (shape-of (kind-of (d .kind)) .extra) text d places idents ≡ true)
+    → (fits (shape-of (kind-of (d .kind))) d (length places) (length idents) ≡ true) × (extras-fit (shape-of (kind-of (d .kind)) .extra) text d places idents ≡ true)
 fit-passed text d places idents e = and-parts _ _ (unless-none _ _ e)

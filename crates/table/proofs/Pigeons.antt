@@ -36,7 +36,7 @@ has-without j i [] h = h
 has-without j i (x ∷ xs) h = ⊎-elim
     (λ e. step (ap (λ l. has l i) (sym (without-here j x xs e)) ∙ h))
     (λ ne. ⊎-elim (λ same. head-is x xs i same)
-      (λ other. head-not x xs i other ∙ has-without j i xs (sym (head-not x (without j xs) i other) ∙ ap (λ l. has l i) (sym (without-there j x xs ne)) ∙ h)) (cases-eq x i))
+    (λ other. head-not x xs i other ∙ has-without j i xs (sym (head-not x (without j xs) i other) ∙ ap (λ l. has l i) (sym (without-there j x xs ne)) ∙ h)) (cases-eq x i))
     (cases-eq x j)
   where
     step : has xs i ≡ true → has (x ∷ xs) i ≡ true
@@ -49,9 +49,10 @@ distinct-without j (x ∷ xs) d =
     let rest = distinct-without j xs (p .1) in
     ⊎-elim
     (λ e. (ap distinct (without-here j x xs e) ∙ p .1, ap (λ l. has l j) (without-here j x xs e) ∙ subst (λ i. has xs i ≡ false) e (not-true _ (p .0))))
-    (λ ne.
-      ( ap distinct (without-there j x xs ne) ∙ and-from _ _ (not-from-false _ (⊎-elim (λ t. absurd (both-ways _ (not-true _ (p .0)) (has-without j x xs t))) (λ f. f) (cases-bool (has (without j xs) x)))) (rest .0),
-        ap (λ l. has l j) (without-there j x xs ne) ∙ head-not x (without j xs) j ne ∙ rest .1 ))
+    (λ ne. (
+      ap distinct (without-there j x xs ne) ∙ and-from _ _ (not-from-false _ (⊎-elim (λ t. absurd (both-ways _ (not-true _ (p .0)) (has-without j x xs t))) (λ f. f) (cases-bool (has (without j xs) x)))) (rest .0),
+      ap (λ l. has l j) (without-there j x xs ne) ∙ head-not x (without j xs) j ne ∙ rest .1,
+    ))
     (cases-eq x j)
 
 pub pigeons : (n : ℕ) (xs : List ℕ) → distinct xs ≡ true → ((i : ℕ) → has xs i ≡ true → i < n) → length xs ≤ n
@@ -59,8 +60,8 @@ pigeons zero [] d below = omega arith
 pigeons zero (x ∷ xs) d below = absurd (omega (arith, below x (head-is x xs x refl)))
 pigeons (suc n) xs d below = ⊎-elim
     (λ h.
-      let w = distinct-without n xs d in
-      omega (arith, length-without n xs h, pigeons n (without n xs) (w .0) (λ i hi. lower i (below i (has-without n i xs hi)) (λ e. both-ways _ (w .1) (subst (λ k. has (without n xs) k ≡ true) e hi)))))
+    let w = distinct-without n xs d in
+    omega (arith, length-without n xs h, pigeons n (without n xs) (w .0) (λ i hi. lower i (below i (has-without n i xs hi)) (λ e. both-ways _ (w .1) (subst (λ k. has (without n xs) k ≡ true) e hi)))))
     (λ h. omega (arith, pigeons n xs d (λ i hi. lower i (below i hi) (λ e. both-ways _ h (subst (λ k. has xs k ≡ true) e hi)))))
     (cases-bool (has xs n))
   where

@@ -60,7 +60,7 @@ module _ (s : State) (d : Draft) (places : List ℕ) (sound : Sound s) (ready : 
       (λ f. f ∙ sym (lt-leb _ _ (omega (arith, leb-false lines 65535 f)))) (cases-bool (leb lines 65535))
 
   pub sized-is : (height lines : ℕ) (r : Bool) → height ≡ height-of s d places → lines ≡ min (lines-of s d places) 65536 → r ≡ (leb height 64 && leb lines 65535)
-    → due-size s d places ≡ unless r (Size 0)
+      → due-size s d places ≡ unless r (Size 0)
   sized-is height lines r tall many is = ap (λ b. unless b (Size 0)) (sym (is ∙ ap₂ _&&_ (ap (λ h. leb h 64) tall) (capped lines many)))
 
   pub exact : (lines : ℕ) → lines ≡ min (lines-of s d places) 65536 → leb lines 65535 ≡ true → lines ≡ lines-of s d places

@@ -46,7 +46,13 @@ shared-of extra.Shared idents = idents
 
 abbrev pub parts-of : Draft → ℕ → ℕ → Parts
 parts-of d start idents = record {
-  start = start; head = d .head; body = d .body; branch = d .branch; arms = d .arms; values = d .values; ranges = d .ranges;
+  start = start;
+  head = d .head;
+  body = d .body;
+  branch = d .branch;
+  arms = d .arms;
+  values = d .values;
+  ranges = d .ranges;
   shared = shared-of (shape-of (kind-of (d .kind)) .extra) idents;
 }
 

@@ -1,7 +1,13 @@
 -- What a table tells of a node: its record and what its links hold. Assumes nothing.
-use mathlib.Core.Bool.{Bool, _&&_}
+use mathlib.Core.Bool.{Bool, _&&_, cond}
 use Prim.Native.Nat.{ℕ, _+_}
-use lib.Dec.{ltb}
+use lib.Dec.{ltb, leb}
+use Rattle.std.specs.declared.option.Option.{Option}
+use Rattle.std.specs.declared.option.Option.the-variants.{Some, None}
+use Rattle.tree.specs.Limits.{limit-of}
+use Rattle.tree.specs.declared.limits.Memory.{Memory}
+use Rattle.tree.specs.declared.limits.Memory.the-variants as limits
+use Rattle.tree.specs.declared.limits.MemoryFault.{MemoryFault}
 use Rattle.node.specs.declared.records.Ident.{Ident}
 use Rattle.node.specs.declared.records.Node.{Node}
 use Rattle.table.specs.Facts.{known, kid}
@@ -29,3 +35,10 @@ reference-at s n k = kid s n (kids (node-at s n .parts) + k)
 -- the name that belongs to a link: the key of an item, or a shared name
 abbrev pub ident-at : State → ℕ → ℕ → Ident
 ident-at s n k = link-at s (node-at s n .parts .start + k) .ident
+
+-- fault 1: more memory than its limit, nodes before links before text
+abbrev pub over : Memory → ℕ → Option MemoryFault → Option MemoryFault
+over m lent rest = cond (leb lent (limit-of m)) rest (Some (record { memory = m }))
+
+abbrev pub memory-due : ℕ → ℕ → ℕ → Option MemoryFault
+memory-due nodes links text = over limits.Nodes nodes (over limits.Links links (over limits.Text text None))

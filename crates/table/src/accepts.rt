@@ -35,7 +35,14 @@ impl Memory<'_> {
     }
 
     // The record of a node to be put, or the refusal that is due.
-    fn accept(&self, text: &[u8], draft: &Draft, places: &[usize], idents: &[RawIdent], values: usize) -> Result<Node, TableFault>
+    fn accept(
+        &self,
+        text: &[u8],
+        draft: &Draft,
+        places: &[usize],
+        idents: &[RawIdent],
+        values: usize,
+    ) -> Result<Node, TableFault>
         requires sound { ⌜ Sound (state-of (now self)) ⌝ }
         requires text { ⌜ length (now text) ≤ 65535 ⌝ }
         ensures { λ r. ⌜ Cases r (λ n. (put-refusal (state-of (now (self .entry))) (now (text .entry)) (now (draft .entry)) (now (places .entry)) (now (idents .entry)) values ≡ None) × (n ≡ node-of (state-of (now (self .entry))) (now (draft .entry)) (now (places .entry)) (length (now (idents .entry))))) (λ f. put-refusal (state-of (now (self .entry))) (now (text .entry)) (now (draft .entry)) (now (places .entry)) (now (idents .entry)) values ≡ Some f) ⌝ }
@@ -53,7 +60,14 @@ impl Memory<'_> {
     }
 
     // Puts a node at the first unused place, or refuses it and changes nothing.
-    pub(crate) fn put(&mut self, text: &[u8], draft: &Draft, places: &[usize], idents: &[RawIdent], values: usize) -> Result<usize, TableFault>
+    pub(crate) fn put(
+        &mut self,
+        text: &[u8],
+        draft: &Draft,
+        places: &[usize],
+        idents: &[RawIdent],
+        values: usize,
+    ) -> Result<usize, TableFault>
         requires sound { ⌜ Sound (state-of (now self)) ⌝ }
         requires text { ⌜ length (now text) ≤ 65535 ⌝ }
         ensures put { λ r. ⌜ Put (state-of (now (self .entry))) (now (text .entry)) (now (draft .entry)) (now (places .entry)) (now (idents .entry)) values r (state-of (now (self .exit))) ⌝ }

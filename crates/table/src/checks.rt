@@ -54,7 +54,12 @@ impl Memory<'_> {
     }
 
     // The first place at which a statement stands for an expression, or the other way round.
-    pub(crate) fn first_misplaced(&self, from: usize, until: usize, places: &[usize]) -> Option<usize>
+    pub(crate) fn first_misplaced(
+        &self,
+        from: usize,
+        until: usize,
+        places: &[usize],
+    ) -> Option<usize>
         requires known { ⌜ ((k : ℕ) → k < length (now places) → getD (now places) k 0 < length (now (now self .nodes))) ⌝ }
         ensures { λ r. ⌜ r ≡ first-failing (sorted-at (state-of (now (self .entry))) from until) [] (now (places .entry)) ⌝ }
     {
@@ -96,7 +101,11 @@ impl Memory<'_> {
         ensures { λ r. ⌜ r ≡ same (is-stmt (node-at (state-of (now (self .entry))) place .details .kind)) (leb from k && ltb k until) ⌝ }
     {
         let stmt = is_stmt(self.nodes[place].details.kind);
-        if takes_stmt(from, until, k) { stmt } else { !stmt }
+        if takes_stmt(from, until, k) {
+            stmt
+        } else {
+            !stmt
+        }
     }
 
     // Whether a node stands under nothing.

@@ -3,6 +3,7 @@ mod accepts;
 mod checks;
 mod children;
 mod grows;
+pub mod making;
 mod measures;
 pub mod memory;
 mod puts;

@@ -16,7 +16,9 @@ use draft::drafts::RawIdent;
 use draft::drafts::RawKind;
 use draft::keys::keys_distinct;
 use draft::lists::Below;
+use draft::lists::BelowTest;
 use draft::lists::HasPosition;
+use draft::lists::HasPositionTest;
 use draft::lists::InRange;
 use draft::lists::InRangeTest;
 use draft::lists::Within;
@@ -29,14 +31,16 @@ use node::kinds::ExprKind;
 use node::kinds::Kind;
 use node::kinds::StmtKind;
 use node::shapes::Extra;
-use draft::lists::BelowTest;
-use draft::lists::HasPositionTest;
 
 // The children of a draft among the places handed in with it.
 fn kid_places<'p>(draft: &Draft, places: &'p [usize]) -> &'p [usize]
     ensures { λ r. ⌜ now r ≡ kid-list (now (draft .entry)) (now (places .entry)) ⌝ }
 {
-    let kids = (draft.head as u128) + draft.body as u128 + draft.branch as u128 + draft.arms as u128 + draft.arms as u128;
+    let kids = (draft.head as u128)
+        + draft.body as u128
+        + draft.branch as u128
+        + draft.arms as u128
+        + draft.arms as u128;
     if kids < places.len() as u128 {
         &places[0..kids as usize]
     } else {
@@ -110,15 +114,28 @@ fn reference_places<'p>(draft: &Draft, places: &'p [usize]) -> &'p [usize]
 }
 
 // Whether names in links, references and keys are what the kind asks for.
-fn extras_fit(extra: Extra, text: &[u8], draft: &Draft, places: &[usize], idents: &[RawIdent]) -> bool
+fn extras_fit(
+    extra: Extra,
+    text: &[u8],
+    draft: &Draft,
+    places: &[usize],
+    idents: &[RawIdent],
+) -> bool
     requires { ⌜ handed (now draft) ≡ length (now places) ⌝ }
     ensures { λ r. ⌜ r ≡ extras-fit extra (now (text .entry)) (now (draft .entry)) (now (places .entry)) (now (idents .entry)) ⌝ }
 {
     let below = Below { arms: draft.arms };
-    every(&HasPosition, idents) & every(&below, reference_places(draft, places)) & keys_fit(extra, text, idents)
+    every(&HasPosition, idents)
+        & every(&below, reference_places(draft, places))
+        & keys_fit(extra, text, idents)
 }
 
-fn fit_refusal(text: &[u8], draft: &Draft, places: &[usize], idents: &[RawIdent]) -> Option<TableFault>
+fn fit_refusal(
+    text: &[u8],
+    draft: &Draft,
+    places: &[usize],
+    idents: &[RawIdent],
+) -> Option<TableFault>
     requires { ⌜ kind-in-range (now draft .kind) ≡ true ⌝ }
     ensures { λ r. ⌜ r ≡ due-fit (now (text .entry)) (now (draft .entry)) (now (places .entry)) (now (idents .entry)) ⌝ }
 {
@@ -165,7 +182,14 @@ impl Memory<'_> {
     }
 
     // The refusal that is due before any count is made.
-    pub(crate) fn refusal_before(&self, text: &[u8], draft: &Draft, places: &[usize], idents: &[RawIdent], values: usize) -> Option<TableFault>
+    pub(crate) fn refusal_before(
+        &self,
+        text: &[u8],
+        draft: &Draft,
+        places: &[usize],
+        idents: &[RawIdent],
+        values: usize,
+    ) -> Option<TableFault>
         requires { ⌜ NodesFit (state-of (now self)) ⌝ }
         ensures { λ r. ⌜ r ≡ due-before (state-of (now (self .entry))) (now (text .entry)) (now (draft .entry)) (now (places .entry)) (now (idents .entry)) values ⌝ }
     {

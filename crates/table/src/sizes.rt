@@ -53,7 +53,13 @@ fn narrow(draft: &Draft, start: usize, shared: usize) -> Parts
 }
 
 // The record of a node to be put, which stands under nothing.
-pub(crate) fn made(draft: &Draft, details: Details, start: usize, shared: usize, size: Measure) -> Node
+pub(crate) fn made(
+    draft: &Draft,
+    details: Details,
+    start: usize,
+    shared: usize,
+    size: Measure,
+) -> Node
     requires start { ⌜ start ≤ 65535 ⌝ }
     requires shared { ⌜ shared ≤ 65535 ⌝ }
     requires kids { ⌜ now draft .head + now draft .body + now draft .branch + now draft .arms ≤ 65535 ⌝ }
@@ -82,7 +88,12 @@ impl Measure {
 
 impl Memory<'_> {
     // The height and the lines of a node to be put; fault 7 where they are too large.
-    pub(crate) fn sized(&self, draft: &Draft, details: &Details, places: &[usize]) -> Result<Measure, TableFault>
+    pub(crate) fn sized(
+        &self,
+        draft: &Draft,
+        details: &Details,
+        places: &[usize],
+    ) -> Result<Measure, TableFault>
         requires sound { ⌜ Sound (state-of (now self)) ⌝ }
         requires ready { ⌜ Ready (state-of (now self)) (now draft) (now places) ⌝ }
         requires details { ⌜ now details ≡ details-of (now draft) ⌝ }

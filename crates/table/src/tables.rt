@@ -1,6 +1,9 @@
 //! The script table: its memory, its text, and what always holds of them.
 ghost use Rattle.table.specs.Facts.{ArmsThere, Heights, HeightsFit, KidsKnown, KidsLower, KidsOnce, KidsSorted, KidsUnder, Lines, LinesFit, LinksFit, NodesFit, RunsFit, UpHolds, UpKnown, WalkedKnown, WalkedLower};
 ghost use Rattle.table.specs.State.{state-of};
+ghost use Prim.Native.Nat.{_≤_};
+ghost use denote.Ref.{now};
+ghost use lib.ListN.{length};
 use crate::memory::Memory;
 
 /// A table of a script's nodes over lent memory, with the one text that its names are runs of.
@@ -8,6 +11,7 @@ use crate::memory::Memory;
 pub struct Table<'a> {
     pub(crate) memory: Memory<'a>,
     pub(crate) text: &'a [u8],
+    ghost text_fits: { length (now text) ≤ 65535 },
     ghost nodes_fit: { NodesFit (state-of memory) },
     ghost links_fit: { LinksFit (state-of memory) },
     ghost runs_fit: { RunsFit (state-of memory) },

@@ -70,6 +70,7 @@ returns c =
     let details : c .unwrap-details .result ≡ details-of (c .args .draft .now) = let is = c .unwrap-details .ensures in cc (some, is) in
     let shared = shared-is (state-of (c .args .self .now)) (c .args .text .now) (c .args .draft .now) (c .args .places .now) (c .args .idents .now) (c .args .values) (c .pre .sound .nodes-fit) none (c .unwrap-details .result) (c .shape .result) (c .shared-count-shared .result) details (c .shape .ensures) (c .shared-count-shared .ensures) in
     let room = room-is (state-of (c .args .self .now)) (c .args .text .now) (c .args .draft .now) (c .args .places .now) (c .args .idents .now) (c .args .values) (c .pre .sound .nodes-fit) none (c .shared-count-shared .result) shared (c .room-refusal .result) (c .room-refusal .ensures) in
-    let size = c .in-Continue-size .ensures tt in
-    ( refusal-is (state-of (c .args .self .now)) (c .args .text .now) (c .args .draft .now) (c .args .places .now) (c .args .idents .now) (c .args .values) (c .pre .sound .nodes-fit) none (size .0) ∙ sym room ∙ c .in-rest-room-refusal .is, 
-      made-is (state-of (c .args .self .now)) (c .args .text .now) (c .args .draft .now) (c .args .places .now) (c .args .idents .now) (c .args .values) (c .pre .sound .nodes-fit) none (c .unwrap-details .result) (c .shared-count-shared .result) (c .in-Continue-size .size .height) (c .in-Continue-size .size .lines) (c .made .result) (c .made .ensures) details shared (size .1) (size .2) )
+    let size = c .in-Continue-size .ensures tt in (
+      refusal-is (state-of (c .args .self .now)) (c .args .text .now) (c .args .draft .now) (c .args .places .now) (c .args .idents .now) (c .args .values) (c .pre .sound .nodes-fit) none (size .0) ∙ sym room ∙ c .in-rest-room-refusal .is,
+      made-is (state-of (c .args .self .now)) (c .args .text .now) (c .args .draft .now) (c .args .places .now) (c .args .idents .now) (c .args .values) (c .pre .sound .nodes-fit) none (c .unwrap-details .result) (c .shared-count-shared .result) (c .in-Continue-size .size .height) (c .in-Continue-size .size .lines) (c .made .result) (c .made .ensures) details shared (size .1) (size .2),
+    )

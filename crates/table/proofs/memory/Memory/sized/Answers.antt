@@ -44,12 +44,13 @@ returns-then-fits c =
     let s = state-of (c .args .self .now) in
     let places = c .args .places .now in
     let xs : walked (handed-in places) (c .args .details .now) (c .narrow-parts .result) ≡ walked (handed-in places) (details-of d) (parts-of d 0 0) =
-        ap₂ (walked (handed-in places)) (c .pre .details) (parts-are d (c .narrow-parts .result) (c .narrow-parts .ensures)) in
+    ap₂ (walked (handed-in places)) (c .pre .details) (parts-are d (c .narrow-parts .result) (c .narrow-parts .ensures)) in
     let tall : c .measure-size .result .height ≡ height-of s d places = c .measure-size .ensures .height ∙ ap (λ x. suc (highest s x)) xs in
-    let many : c .measure-size .result .lines ≡ min (lines-of s d places) 65536 = c .measure-size .ensures .lines ∙ ap (λ x. min (suc (all-lines s x)) 65536) xs in
-    ( sized-is s d places (c .pre .sound) (c .pre .ready) _ _ (c .fits-2 .result) tall many (c .fits-2 .ensures) ∙ ap (λ b. unless b (Size 0)) (c .if-fits .taken),
+    let many : c .measure-size .result .lines ≡ min (lines-of s d places) 65536 = c .measure-size .ensures .lines ∙ ap (λ x. min (suc (all-lines s x)) 65536) xs in (
+      sized-is s d places (c .pre .sound) (c .pre .ready) _ _ (c .fits-2 .result) tall many (c .fits-2 .ensures) ∙ ap (λ b. unless b (Size 0)) (c .if-fits .taken),
       tall,
-      exact s d places (c .pre .sound) (c .pre .ready) _ many (and-parts _ _ (sym (c .if-fits .ensures tt)) .1) )
+      exact s d places (c .pre .sound) (c .pre .ready) _ many (and-parts _ _ (sym (c .if-fits .ensures tt)) .1),
+    )
 
 pub returns-else-fits : need.returns-else-fits
 returns-else-fits c =
@@ -57,7 +58,7 @@ returns-else-fits c =
     let s = state-of (c .args .self .now) in
     let places = c .args .places .now in
     let xs : walked (handed-in places) (c .args .details .now) (c .narrow-parts .result) ≡ walked (handed-in places) (details-of d) (parts-of d 0 0) =
-        ap₂ (walked (handed-in places)) (c .pre .details) (parts-are d (c .narrow-parts .result) (c .narrow-parts .ensures)) in
+    ap₂ (walked (handed-in places)) (c .pre .details) (parts-are d (c .narrow-parts .result) (c .narrow-parts .ensures)) in
     let tall : c .measure-size .result .height ≡ height-of s d places = c .measure-size .ensures .height ∙ ap (λ x. suc (highest s x)) xs in
     let many : c .measure-size .result .lines ≡ min (lines-of s d places) 65536 = c .measure-size .ensures .lines ∙ ap (λ x. min (suc (all-lines s x)) 65536) xs in
     sized-is s d places (c .pre .sound) (c .pre .ready) _ _ (c .fits-2 .result) tall many (c .fits-2 .ensures) ∙ ap (λ b. unless b (Size 0)) (c .if-fits .left)
