@@ -6,7 +6,7 @@ use Rattle.std.specs.Options.{mapped}
 use Rattle.std.specs.declared.option.Option.{Option}
 use Rattle.std.specs.declared.option.Option.the-variants.{Some, None}
 use Rattle.draft.specs.Drafts.{if-given}
-use Rattle.node.specs.Kinds.{stmt-at, expr-at}
+use Rattle.kind.specs.Kinds.{stmt-at, expr-at}
 use Rattle.node.specs.Positions.{none, placed, placed-span}
 use Rattle.draft.specs.declared.drafts.Draft.{Draft}
 use Rattle.draft.specs.declared.drafts.RawConstant.{RawConstant}
@@ -17,8 +17,8 @@ use Rattle.draft.specs.declared.drafts.RawKind.{RawKind}
 use Rattle.draft.specs.declared.drafts.RawKind.the-variants as raw-kind
 use Rattle.draft.specs.declared.drafts.RawRun.{RawRun}
 use Rattle.node.specs.declared.flags.ASTFlags.{ASTFlags}
-use Rattle.node.specs.declared.kinds.Kind.{Kind}
-use Rattle.node.specs.declared.kinds.Kind.the-variants as kind
+use Rattle.kind.specs.declared.kinds.Kind.{Kind}
+use Rattle.kind.specs.declared.kinds.Kind.the-variants as kind
 use Rattle.node.specs.declared.positions.Position.{Position}
 use Rattle.node.specs.declared.positions.RawPosition.{RawPosition}
 use Rattle.node.specs.declared.positions.RawSpan.{RawSpan}

@@ -10,17 +10,17 @@ use Rattle.draft.specs.declared.drafts.Draft.{Draft}
 use Rattle.draft.specs.declared.drafts.RawConstant.{RawConstant}
 use Rattle.draft.specs.declared.drafts.RawConstant.the-variants as raw
 use Rattle.draft.specs.declared.drafts.RawIdent.{RawIdent}
-use Rattle.node.specs.declared.shapes.Blocks.{Blocks}
-use Rattle.node.specs.declared.shapes.Blocks.the-variants as blocks
-use Rattle.node.specs.declared.shapes.Extra.{Extra}
-use Rattle.node.specs.declared.shapes.Extra.the-variants as extra
-use Rattle.node.specs.declared.shapes.Head.{Head}
-use Rattle.node.specs.declared.shapes.Head.the-variants as head
-use Rattle.node.specs.declared.shapes.Names.{Names}
-use Rattle.node.specs.declared.shapes.Names.the-variants as names
-use Rattle.node.specs.declared.shapes.Shape.{Shape}
-use Rattle.node.specs.declared.shapes.Value.{Value}
-use Rattle.node.specs.declared.shapes.Value.the-variants as value
+use Rattle.kind.specs.declared.shapes.Blocks.{Blocks}
+use Rattle.kind.specs.declared.shapes.Blocks.the-variants as blocks
+use Rattle.kind.specs.declared.shapes.Extra.{Extra}
+use Rattle.kind.specs.declared.shapes.Extra.the-variants as extra
+use Rattle.kind.specs.declared.shapes.Head.{Head}
+use Rattle.kind.specs.declared.shapes.Head.the-variants as head
+use Rattle.kind.specs.declared.shapes.Names.{Names}
+use Rattle.kind.specs.declared.shapes.Names.the-variants as names
+use Rattle.kind.specs.declared.shapes.Shape.{Shape}
+use Rattle.kind.specs.declared.shapes.Value.{Value}
+use Rattle.kind.specs.declared.shapes.Value.the-variants as value
 
 -- how many expressions a head may have
 abbrev pub fits-head : Head → ℕ → Bool

@@ -5,12 +5,12 @@ ghost use mathlib.Core.Path.{_≡_};
 use crate::drafts::Draft;
 use crate::drafts::RawConstant;
 use crate::drafts::RawIdent;
-use node::shapes::Blocks;
-use node::shapes::Extra;
-use node::shapes::Head;
-use node::shapes::Names;
-use node::shapes::Shape;
-use node::shapes::Value;
+use kind::shapes::Blocks;
+use kind::shapes::Extra;
+use kind::shapes::Head;
+use kind::shapes::Names;
+use kind::shapes::Shape;
+use kind::shapes::Value;
 
 fn agree(a: bool, b: bool) -> bool
     ensures { λ r. ⌜ r ≡ same a b ⌝ }

@@ -12,13 +12,13 @@ use Rattle.draft.specs.declared.drafts.RawIdent.{RawIdent}
 use Rattle.draft.specs.declared.drafts.RawKind.{RawKind}
 use Rattle.draft.specs.declared.drafts.RawKind.the-variants as raw
 use Rattle.draft.specs.declared.drafts.RawRun.{RawRun}
-use Rattle.node.specs.Kinds.{stmt-number, expr-number}
-use Rattle.node.specs.Shapes.{shape-of}
-use Rattle.node.specs.declared.kinds.ExprKind.{ExprKind}
-use Rattle.node.specs.declared.kinds.ExprKind.the-variants as expr
-use Rattle.node.specs.declared.kinds.Kind.{Kind}
-use Rattle.node.specs.declared.kinds.Kind.the-variants.{Stmt, Expr}
-use Rattle.node.specs.declared.kinds.StmtKind.{StmtKind}
+use Rattle.kind.specs.Kinds.{stmt-number, expr-number}
+use Rattle.kind.specs.Shapes.{shape-of}
+use Rattle.kind.specs.declared.kinds.ExprKind.{ExprKind}
+use Rattle.kind.specs.declared.kinds.ExprKind.the-variants as expr
+use Rattle.kind.specs.declared.kinds.Kind.{Kind}
+use Rattle.kind.specs.declared.kinds.Kind.the-variants.{Stmt, Expr}
+use Rattle.kind.specs.declared.kinds.StmtKind.{StmtKind}
 use Rattle.node.specs.declared.positions.RawPosition.{RawPosition}
 use Rattle.makers.specs.declared.parts.Arms.{Arms}
 use Rattle.makers.specs.declared.parts.Block.{Block}

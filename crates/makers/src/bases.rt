@@ -7,7 +7,7 @@ use draft::drafts::Draft;
 use draft::drafts::RawIdent;
 use draft::drafts::RawKind;
 use draft::drafts::RawRun;
-use node::kinds::Kind;
+use kind::kinds::Kind;
 use node::positions::RawPosition;
 
 // The number of a kind within its enum.

@@ -13,8 +13,8 @@ use draft::drafts::Draft;
 use draft::drafts::RawConstant;
 use draft::drafts::RawFlags;
 use draft::drafts::RawRun;
-use node::kinds::ExprKind;
-use node::kinds::Kind;
+use kind::kinds::ExprKind;
+use kind::kinds::Kind;
 use node::positions::RawPosition;
 
 // The kind of a constant.

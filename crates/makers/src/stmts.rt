@@ -16,8 +16,8 @@ use crate::parts::Placed;
 use crate::parts::Qualified;
 use draft::drafts::Draft;
 use draft::drafts::RawFlags;
-use node::kinds::Kind;
-use node::kinds::StmtKind;
+use kind::kinds::Kind;
+use kind::kinds::StmtKind;
 use node::positions::RawPosition;
 
 /// Nothing.

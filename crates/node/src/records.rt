@@ -1,8 +1,8 @@
 //! What a table keeps of a node, and of what it holds.
 use crate::flags::ASTFlags;
-use crate::kinds::Kind;
 use crate::positions::Position;
 use crate::positions::Span;
+use kind::kinds::Kind;
 
 /// A run of a table's text.
 #[derive(Clone, Copy)]

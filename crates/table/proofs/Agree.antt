@@ -8,11 +8,11 @@ use lib.ListN.{length, getD}
 use Rattle.std.proofs.shelf.Tests.{cases-lt}
 use Rattle.std.proofs.shelf.Lists.{same-lists, getD-default}
 use Rattle.std.specs.Iters.{counting}
-use Rattle.node.specs.Shapes.{shape-of}
+use Rattle.kind.specs.Shapes.{shape-of}
 use Rattle.node.specs.declared.records.Details.{Details}
 use Rattle.node.specs.declared.records.Parts.{Parts}
-use Rattle.node.specs.declared.shapes.Blocks.{Blocks}
-use Rattle.node.specs.declared.shapes.Blocks.the-variants as blocks
+use Rattle.kind.specs.declared.shapes.Blocks.{Blocks}
+use Rattle.kind.specs.declared.shapes.Blocks.the-variants as blocks
 use Rattle.table.specs.Finds.{run-from, run-count, direct, arm-count, child-count}
 use Rattle.table.specs.State.{State, node-at, named, kids, references, references-of, referred, default-of, walked, arms-from, highest, all-lines}
 use Rattle.table.proofs.Found.{length-named, getD-named, length-referred, getD-referred-left, getD-referred-right, length-walked, getD-walked-direct, getD-walked-arms}

@@ -22,16 +22,16 @@ use Rattle.draft.specs.declared.drafts.RawConstant.{RawConstant}
 use Rattle.draft.specs.declared.drafts.RawConstant.the-variants as raw
 use Rattle.draft.specs.declared.drafts.RawIdent.{RawIdent}
 use Rattle.draft.specs.declared.drafts.RawRun.{RawRun}
-use Rattle.node.specs.Shapes.{shape-of}
+use Rattle.kind.specs.Shapes.{shape-of}
 use Rattle.node.specs.declared.positions.RawPosition.{RawPosition}
 use Rattle.node.specs.declared.records.Details.{Details}
 use Rattle.node.specs.declared.records.Node.{Node}
 use Rattle.node.specs.declared.records.Up.the-variants as up
 use Rattle.node.specs.declared.faults.TableFault.{TableFault}
 use Rattle.node.specs.declared.faults.TableFault.the-variants.{Full}
-use Rattle.node.specs.declared.shapes.Shape.{Shape}
-use Rattle.node.specs.declared.shapes.Extra.{Extra}
-use Rattle.node.specs.declared.shapes.Extra.the-variants as extra
+use Rattle.kind.specs.declared.shapes.Shape.{Shape}
+use Rattle.kind.specs.declared.shapes.Extra.{Extra}
+use Rattle.kind.specs.declared.shapes.Extra.the-variants as extra
 use Rattle.table.specs.Facts.{NodesFit}
 use Rattle.table.specs.Fresh.{Fresh, Ready}
 use Rattle.table.specs.Grows.{new-link}

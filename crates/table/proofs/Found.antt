@@ -10,13 +10,13 @@ use Rattle.std.proofs.shelf.Lists.{length-append, getD-append-left, getD-append
 use Rattle.std.proofs.shelf.Tests.{cases-lt}
 use Rattle.std.specs.Iters.{counting}
 use Rattle.std.specs.Joined.{joined}
-use Rattle.node.specs.Shapes.{shape-of}
+use Rattle.kind.specs.Shapes.{shape-of}
 use Rattle.node.specs.declared.records.Details.{Details}
 use Rattle.node.specs.declared.records.Parts.{Parts}
 use Rattle.node.specs.declared.records.Second.{Second}
 use Rattle.node.specs.declared.records.Second.the-variants as second
-use Rattle.node.specs.declared.shapes.Blocks.{Blocks}
-use Rattle.node.specs.declared.shapes.Blocks.the-variants as blocks
+use Rattle.kind.specs.declared.shapes.Blocks.{Blocks}
+use Rattle.kind.specs.declared.shapes.Blocks.the-variants as blocks
 use Rattle.table.specs.Finds.{run-from, run-count, direct, arm-count, child-count}
 use Rattle.table.specs.State.{named, head-of, body-of, branch-of, references-of, references, referred, default-of, walked-parts, walked, through, condition-of, value-of, arms-from, kids}
 

@@ -16,10 +16,10 @@ use Rattle.draft.specs.Details.{kind-of}
 use Rattle.draft.specs.Drafts.{in-range, runs-within, ident-in-range, ident-within}
 use Rattle.draft.specs.Lists.{all}
 use Rattle.draft.specs.declared.drafts.RawIdent.{RawIdent}
-use Rattle.node.specs.Shapes.{shape-of}
+use Rattle.kind.specs.Shapes.{shape-of}
 use Rattle.node.specs.declared.faults.TableFault.{TableFault}
 use Rattle.node.specs.declared.faults.TableFault.the-variants.{Missing, Misfit, Held}
-use Rattle.node.specs.declared.shapes.Shape.{Shape}
+use Rattle.kind.specs.declared.shapes.Shape.{Shape}
 use Rattle.table.specs.Puts.{unless, or-else, kid-list, parts-of, due-known, due-range, due-text, due-fit, due-place, due-held, extras-fit}
 use Rattle.table.specs.State.{State}
 use Rattle.table.specs.Tests.{first-failing, is-known, in-place, not-held}

@@ -15,8 +15,8 @@ use Rattle.draft.specs.Fits.{kids as draft-kids}
 use Rattle.draft.specs.declared.drafts.Draft.{Draft}
 use Rattle.node.specs.declared.faults.TableFault.{TableFault}
 use Rattle.node.specs.declared.faults.TableFault.the-variants.{Size}
-use Rattle.node.specs.declared.shapes.Extra.{Extra}
-use Rattle.node.specs.declared.shapes.Extra.the-variants as extra
+use Rattle.kind.specs.declared.shapes.Extra.{Extra}
+use Rattle.kind.specs.declared.shapes.Extra.the-variants as extra
 use Rattle.table.specs.Facts.{Sound}
 use Rattle.table.specs.Finds.{child-count, arm-count}
 use Rattle.table.specs.Fresh.{Ready}

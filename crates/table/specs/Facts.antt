@@ -5,8 +5,8 @@ use mathlib.Core.Path.{_≡_}
 use Prim.Native.Nat.{ℕ, suc, _+_, _<_, _≤_, min}
 use lib.Dec.{ltb, leb}
 use lib.ListN.{length, getD}
-use Rattle.node.specs.declared.kinds.Kind.{Kind}
-use Rattle.node.specs.declared.kinds.Kind.the-variants as kind
+use Rattle.kind.specs.declared.kinds.Kind.{Kind}
+use Rattle.kind.specs.declared.kinds.Kind.the-variants as kind
 use Rattle.node.specs.declared.records.Parts.{Parts}
 use Rattle.table.specs.State.{State, node-at, links-of, kids, total, arms-referred, children, held, has, distinct, up-number, highest, all-lines}
 

@@ -1,11 +1,11 @@
 -- Inner: where the code finds a child among a node's links. No promise rests on this page. Assumes nothing.
 use Prim.Native.Nat.{ℕ, _+_}
 use lib.ListN.{length}
-use Rattle.node.specs.Shapes.{shape-of}
+use Rattle.kind.specs.Shapes.{shape-of}
 use Rattle.node.specs.declared.records.Details.{Details}
 use Rattle.node.specs.declared.records.Parts.{Parts}
-use Rattle.node.specs.declared.shapes.Blocks.{Blocks}
-use Rattle.node.specs.declared.shapes.Blocks.the-variants as blocks
+use Rattle.kind.specs.declared.shapes.Blocks.{Blocks}
+use Rattle.kind.specs.declared.shapes.Blocks.the-variants as blocks
 use Rattle.table.specs.State.{references, default-of}
 
 -- the walked parts lie side by side: from one link on, so many

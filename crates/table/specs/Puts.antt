@@ -20,15 +20,15 @@ use Rattle.draft.specs.declared.drafts.Draft.{Draft}
 use Rattle.draft.specs.declared.drafts.RawConstant.{RawConstant}
 use Rattle.draft.specs.declared.drafts.RawConstant.the-variants as raw
 use Rattle.draft.specs.declared.drafts.RawIdent.{RawIdent}
-use Rattle.node.specs.Shapes.{shape-of}
+use Rattle.kind.specs.Shapes.{shape-of}
 use Rattle.node.specs.declared.faults.StoreFault.the-variants as store
 use Rattle.node.specs.declared.faults.TableFault.{TableFault}
 use Rattle.node.specs.declared.faults.TableFault.the-variants.{Missing, Range, Text, Misfit, Held, Size, Full, Store}
 use Rattle.node.specs.declared.records.Node.{Node}
 use Rattle.node.specs.declared.records.Parts.{Parts}
 use Rattle.node.specs.declared.records.Up.the-variants as up
-use Rattle.node.specs.declared.shapes.Extra.{Extra}
-use Rattle.node.specs.declared.shapes.Extra.the-variants as extra
+use Rattle.kind.specs.declared.shapes.Extra.{Extra}
+use Rattle.kind.specs.declared.shapes.Extra.the-variants as extra
 use Rattle.table.specs.Grows.{Grown, new-link}
 use Rattle.table.specs.State.{State, walked, highest, all-lines, total}
 use Rattle.table.specs.Tests.{first-failing, is-known, in-place, not-held}

@@ -8,9 +8,9 @@ use Rattle.std.specs.Iters.{counting}
 use Rattle.std.specs.Joined.{joined}
 use Rattle.std.specs.declared.option.Option.the-variants.{Some, None}
 use Rattle.node.specs.Positions.{none}
-use Rattle.node.specs.Shapes.{shape-of}
-use Rattle.node.specs.declared.kinds.Kind.the-variants as kind
-use Rattle.node.specs.declared.kinds.StmtKind.the-variants as stmt
+use Rattle.kind.specs.Shapes.{shape-of}
+use Rattle.kind.specs.declared.kinds.Kind.the-variants as kind
+use Rattle.kind.specs.declared.kinds.StmtKind.the-variants as stmt
 use Rattle.node.specs.declared.records.Details.{Details}
 use Rattle.node.specs.declared.records.Ident.{Ident}
 use Rattle.node.specs.declared.records.Link.{Link}
@@ -21,8 +21,8 @@ use Rattle.node.specs.declared.records.Second.{Second}
 use Rattle.node.specs.declared.records.Second.the-variants as second
 use Rattle.node.specs.declared.records.Up.{Up}
 use Rattle.node.specs.declared.records.Up.the-variants as up
-use Rattle.node.specs.declared.shapes.Blocks.{Blocks}
-use Rattle.node.specs.declared.shapes.Blocks.the-variants as blocks
+use Rattle.kind.specs.declared.shapes.Blocks.{Blocks}
+use Rattle.kind.specs.declared.shapes.Blocks.the-variants as blocks
 use Rattle.table.specs.declared.memory.Memory.{Memory}
 
 -- the records and links lent, and how many of each are in use

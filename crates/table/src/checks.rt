@@ -11,7 +11,7 @@ ghost use mathlib.Core.List.{[]};
 ghost use mathlib.Core.Path.{_≡_};
 use crate::memory::Memory;
 use crate::seen::Seen;
-use node::kinds::Kind;
+use kind::kinds::Kind;
 use node::records::Up;
 
 fn is_stmt(kind: Kind) -> bool

@@ -1,6 +1,6 @@
 //! Where a node's children stand among its links.
 ghost use Prim.Native.Nat.{ℕ, _+_, _-_, _<_, _≤_};
-ghost use Rattle.node.specs.Shapes.{shape-of};
+ghost use Rattle.kind.specs.Shapes.{shape-of};
 ghost use Rattle.table.specs.Finds.{arm-count, child-count, run-count, run-from};
 ghost use Rattle.table.specs.State.{arms-from, blank-link, default-of, kids, links-of, referred, references, state-of, total, walked};
 ghost use lib.ListN.{getD, length};
@@ -12,7 +12,7 @@ use node::records::Link;
 use node::records::Node;
 use node::records::Parts;
 use node::records::Second;
-use node::shapes::Blocks;
+use kind::shapes::Blocks;
 
 // Where the run of walked parts begins.
 fn run_from(blocks: Blocks, parts: &Parts) -> usize

@@ -27,10 +27,10 @@ use draft::lists::every;
 use node::faults::StoreFault;
 use node::faults::TableFault;
 use node::faults::TextFault;
-use node::kinds::ExprKind;
-use node::kinds::Kind;
-use node::kinds::StmtKind;
-use node::shapes::Extra;
+use kind::kinds::ExprKind;
+use kind::kinds::Kind;
+use kind::kinds::StmtKind;
+use kind::shapes::Extra;
 
 // The children of a draft among the places handed in with it.
 fn kid_places<'p>(draft: &Draft, places: &'p [usize]) -> &'p [usize]

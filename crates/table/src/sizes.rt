@@ -20,7 +20,7 @@ use node::records::Details;
 use node::records::Node;
 use node::records::Parts;
 use node::records::Up;
-use node::shapes::Extra;
+use kind::shapes::Extra;
 
 // How many links shared names take.
 pub(crate) fn shared_count(extra: Extra, idents: usize) -> usize

@@ -3,7 +3,7 @@ use native.Mathlib.Omega.{arith}
 use Prim.Native.Nat.{_+_, _-_, _/_, _%_, _<_, _≤_}
 use lib.ListN.{getD, length}
 use Rattle.std.proofs.shelf.Lists.{getD-default}
-use Rattle.node.specs.Shapes.{shape-of}
+use Rattle.kind.specs.Shapes.{shape-of}
 use Rattle.table.specs.Finds.{run-count, run-from, direct}
 use Rattle.table.specs.State.{referred, arms-from, walked}
 use Rattle.table.proofs.Found.{length-walked, getD-walked-direct, getD-walked-arms}

@@ -9,7 +9,7 @@ use Rattle.std.specs.Options.{isSome}
 use Rattle.std.specs.declared.option.Option.{Option}
 use Rattle.std.specs.declared.option.Option.the-variants.{Some, None}
 use Rattle.draft.specs.Details.{details-of, kind-of}
-use Rattle.node.specs.Shapes.{shape-of}
+use Rattle.kind.specs.Shapes.{shape-of}
 use Rattle.node.specs.declared.faults.TableFault.the-variants.{Full}
 use Rattle.table.specs.Puts.{due-before, due-size, due-room, or-else, unless, shared-of, parts-of}
 use Rattle.table.specs.State.{state-of, total}

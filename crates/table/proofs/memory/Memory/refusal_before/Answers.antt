@@ -3,7 +3,7 @@ use native.Mathlib.Omega.{arith}
 use lib.ListN.{length}
 use Rattle.draft.proofs.Conjuncts.{in-range-parts}
 use Rattle.draft.specs.Details.{kind-of}
-use Rattle.node.specs.Shapes.{shape-of}
+use Rattle.kind.specs.Shapes.{shape-of}
 use Rattle.table.specs.State.{state-of}
 use Rattle.table.proofs.Passed.{known-passed, range-passed, fit-passed, fit-parts}
 use Rattle.table.proofs.memory.Memory.refusal_before.Needs as need

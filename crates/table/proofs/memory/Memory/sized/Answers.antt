@@ -6,7 +6,7 @@ use lib.ListN.{length, getD}
 use Rattle.std.proofs.shelf.Tests.{and-parts}
 use Rattle.draft.specs.Details.{details-of, kind-of}
 use Rattle.draft.specs.declared.drafts.Draft.{Draft}
-use Rattle.node.specs.Shapes.{shape-of}
+use Rattle.kind.specs.Shapes.{shape-of}
 use Rattle.node.specs.declared.records.Details.{Details}
 use Rattle.node.specs.declared.records.Parts.{Parts}
 use Rattle.node.specs.declared.faults.TableFault.the-variants.{Size}

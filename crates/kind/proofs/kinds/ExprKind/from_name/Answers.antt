@@ -1,0 +1,7 @@
+use mathlib.Core.Path.{ap, _∙_}
+use Rattle.kind.specs.Kinds.{expr-named}
+use Rattle.kind.proofs.Naming.{expr-found}
+use Rattle.kind.proofs.kinds.ExprKind.from_name.Needs as need
+
+pub returns : need.returns
+returns c = record { value = c .find .ensures; finds = λ k same. c .find .ensures ∙ ap expr-named same ∙ expr-found k }
