@@ -1,0 +1,5 @@
+use Rattle.outline.proofs.Answered.{count-told}
+use Rattle.outline.proofs.questions.OutlineTree.child_count.Needs as need
+
+pub returns : need.returns
+returns c = count-told (c .args .self .now) (c .args .e) (c .in-Continue-place .ensures tt)

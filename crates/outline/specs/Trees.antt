@@ -1,0 +1,28 @@
+-- An outline as a tree: the entries that it has, how high each is and which children each has. Assumes nothing.
+use mathlib.Core.Bool.{Bool}
+use mathlib.Core.List.{List}
+use Prim.Native.Nat.{ℕ}
+use lib.Dec.{ltb}
+use Rattle.std.specs.Of.Vec.{vec-items, vec-len}
+use Rattle.outline.specs.Nesting.{at, run-of}
+use Rattle.outline.specs.declared.entries.Entry.{Entry}
+use Rattle.outline.specs.declared.entries.NoEntry.{NoEntry}
+use Rattle.outline.specs.declared.entries.Place.{Place}
+use Rattle.outline.specs.declared.outlines.Outline.{Outline}
+
+-- the place of an entry in the tree
+abbrev pub place-of : Outline → Entry → Place
+place-of o e = at (vec-items (o .places)) (e .number)
+
+-- an entry is known if its number is below the number of entries
+abbrev pub known-in : Outline → Entry → Bool
+known-in o e = ltb (e .number) (vec-len (o .places))
+
+abbrev pub height-in : Outline → Entry → ℕ
+height-in o e = place-of o e .height
+
+abbrev pub children-in : Outline → Entry → List Entry
+children-in o e = run-of (vec-items (o .children)) (place-of o e)
+
+abbrev pub missing-in : Outline → Entry → NoEntry
+missing-in o e = record { entry = e }

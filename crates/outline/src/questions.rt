@@ -1,0 +1,70 @@
+//! What an outline answers: its entries and their texts, and the four questions of a tree.
+ghost use Rattle.outline.specs.Law.{outline-law};
+ghost use Rattle.outline.specs.Trees.{children-in, height-in, known-in, missing-in, place-of};
+ghost use Rattle.std.specs.Of.Vec.{vec-len};
+ghost use Rattle.tree.specs.Answers.{told};
+ghost use mathlib.Core.Path.{_≡_};
+use crate::entries::Entry;
+use crate::entries::NoEntry;
+use crate::entries::NoEntryFault;
+use crate::entries::Place;
+use crate::outlines::Outline;
+use tree::trees::Tree;
+
+impl Outline {
+    /// How many entries there are.
+    pub fn len(&self) -> usize
+        ensures { λ r. ⌜ r ≡ vec-len (now (self .entry) .depths) ⌝ }
+    {
+        self.depths.len()
+    }
+
+    // The place of an entry in the tree.
+    fn place(&self, e: Entry) -> Result<Place, NoEntry>
+        ensures { λ r. ⌜ r ≡ told (known-in (now (self .entry)) e) (place-of (now (self .entry)) e) (missing-in (now (self .entry)) e) ⌝ }
+    {
+        if e.number < self.places.len() {
+            Ok(self.places[e.number])
+        } else {
+            Err(NoEntry { entry: e })
+        }
+    }
+}
+
+pub impl Tree for Outline as OutlineTree {
+    type Name = Entry;
+    type Fault = NoEntry;
+
+    ghost known = { known-in };
+
+    ghost heights = { height-in };
+
+    ghost children = { children-in };
+
+    ghost missing = { missing-in };
+
+    ghost lawful = { outline-law };
+
+    fn knows(&self, e: Entry) -> bool {
+        e.number < self.places.len()
+    }
+
+    fn height(&self, e: Entry) -> Result<usize, NoEntry> {
+        let place = self.place(e)?;
+        Ok(place.height)
+    }
+
+    fn child_count(&self, e: Entry) -> Result<usize, NoEntry> {
+        let place = self.place(e)?;
+        Ok(place.count)
+    }
+
+    fn child(&self, e: Entry, i: usize) -> Result<Entry, NoEntry> {
+        let place = self.place(e)?;
+        if i < place.count {
+            Ok(self.children[place.first + i])
+        } else {
+            Err(NoEntry { entry: e })
+        }
+    }
+}
