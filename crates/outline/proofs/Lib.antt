@@ -1,1 +1,4 @@
-mod Answered
+pub mod Answered
+pub mod Gather
+pub mod Kids
+pub mod Settle

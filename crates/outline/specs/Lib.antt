@@ -1,3 +1,4 @@
+pub mod Building
 pub mod Law
 pub mod Nesting
 pub mod Trees

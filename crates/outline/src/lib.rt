@@ -1,4 +1,5 @@
 //! Outlines: entries nested by indentation, held as a tree of their own.
+mod building;
 pub mod entries;
 pub mod outlines;
 pub mod questions;

@@ -1,0 +1,77 @@
+-- One entry more is settled, and those after it stay so. Assumes nothing.
+use mathlib.Core.List.{List, _++_}
+use mathlib.Core.Logic.{_≢_, ⊎-elim}
+use mathlib.Core.Path.{_≡_, refl, sym, ap, subst, _∙_}
+use native.Mathlib.Omega.{arith}
+use Prim.Native.Nat.{ℕ, _+_, _-_, _<_, _≤_}
+use lib.ListN.{length, getD, take, drop, set, length-append, length-drop}
+use Rattle.std.proofs.shelf.Lists.{take-append-le, drop-append-le, take-all, drop-at, getD-set-same, getD-set-other, getD-past}
+use Rattle.std.proofs.shelf.Tests.{cases-lt}
+use Rattle.outline.specs.Building.{Gathering, Settled, SettledFrom}
+use Rattle.outline.specs.Nesting.{at, highest, kids, run-of}
+use Rattle.outline.specs.declared.building.Gathered.{Gathered}
+use Rattle.outline.specs.declared.entries.Entry.{Entry}
+use Rattle.outline.specs.declared.entries.Place.{Place}
+use Rattle.outline.proofs.Kids.{highest-set}
+
+-- a run stays what it is when the list grows
+run-grows : (children more : List Entry) (p : Place) → p .first + p .count ≤ length children → run-of (children ++ more) p ≡ run-of children p
+run-grows children more p h =
+    let l = length-drop (p .first) children in
+    ap (take (p .count)) (drop-append-le (p .first) children more (omega arith)) ∙ take-append-le (p .count) (drop (p .first) children) more (omega arith)
+
+-- and so does a settled entry, when one before it is written
+stays : (depths : List ℕ) (places : List Place) (children more : List Entry) (i j : ℕ) (p q : Place) → i < j → Settled depths places children j q → Settled depths (set places i p) (children ++ more) j q
+stays depths places children more i j p q l s =
+    let grown = run-grows children more q (s .fits) in
+    let same : highest (set places i p) (run-of (children ++ more) q) ≡ highest places (run-of children q) =
+        ap (highest (set places i p)) (grown ∙ s .run) ∙ highest-set places i p (getD depths j 0 + 1) (j + 1) (drop (j + 1) depths) (omega arith) ∙ ap (highest places) (sym (s .run)) in
+    record {
+      fits = omega (arith, length-append children more, s .fits);
+      run = grown ∙ s .run;
+      height = omega (arith, s .height, same);
+      shallow = s .shallow; after = s .after; past = s .past; below = s .below; stops = s .stops
+    }
+
+pub grew : {depths : List ℕ} {places : List Place} {from depth : ℕ} {before after : List Entry} {g : Gathered} → Gathering depths places from depth before g after → length before ≤ length after
+grew {before = before} gathered = omega (arith, ap length (gathered .appended) ∙ length-append before _)
+
+module _ (depths : List ℕ) (places : List Place) (before after : List Entry) (i : ℕ) (g : Gathered) (gathered : Gathering depths places (i + 1) (getD depths i 0 + 1) before g after)
+  (p : Place) (first : p .first ≡ length before) (count : p .first + p .count ≡ length after) (height : p .height ≡ g .height + 1) (past : p .past ≡ g .past) where
+
+  run : run-of after p ≡ kids (getD depths i 0 + 1) (i + 1) (drop (i + 1) depths)
+  run =
+      let more = kids (getD depths i 0 + 1) (i + 1) (drop (i + 1) depths) in
+      let l = ap length (gathered .appended) ∙ length-append before more in
+      ap (λ es. take (p .count) (drop (p .first) es)) (gathered .appended) ∙ ap (take (p .count)) (drop-at before more (p .first) (sym first)) ∙ take-all (p .count) more (omega arith)
+
+  new : Settled depths (set places i p) after i p
+  new =
+      let tall : highest (set places i p) (run-of after p) ≡ g .height =
+          ap (highest (set places i p)) run ∙ highest-set places i p (getD depths i 0 + 1) (i + 1) (drop (i + 1) depths) (omega arith) ∙ sym (gathered .height) in
+      record {
+        fits = omega (arith, count);
+        run = run;
+        height = omega (arith, height, tall);
+        shallow = omega (arith, height, gathered .shallow);
+        after = omega (arith, past, gathered .low);
+        past = omega (arith, past, gathered .high);
+        below = λ k a b. omega (arith, gathered .deep k (omega arith) (omega (arith, past)));
+        stops = ⊎-elim (λ in-reach. subst (λ m. getD depths m 0 ≤ getD depths i 0) (sym past) (omega (arith, gathered .stops in-reach)))
+          (λ over. let z = getD-past depths (p .past) 0 (omega (arith, past)) in omega arith) (cases-lt (g .past) (length depths))
+      }
+
+  pub settled-more : length places ≡ length depths → i < length depths → SettledFrom depths places before (i + 1) → SettledFrom depths (set places i p) after i
+  settled-more e l later j a b =
+      ⊎-elim
+        (λ behind.
+          let ne : j ≢ i = omega arith in
+          let P : Place → Type 0 = Settled depths (set places i p) after j in
+          let Q : List Entry → Type 0 = λ es. Settled depths (set places i p) es j (at places j) in
+          subst P (sym (getD-set-other places i j p _ ne)) (subst Q (sym (gathered .appended)) (stays depths places before _ i j p (at places j) behind (later j (omega arith) b))))
+        (λ here.
+          let P : ℕ → Type 0 = λ k. Settled depths (set places i p) after k (at (set places i p) k) in
+          let Q : Place → Type 0 = Settled depths (set places i p) after i in
+          let same : i ≡ j = omega arith in
+          subst P same (subst Q (sym (getD-set-same places i p _ (omega arith))) new))
+        (cases-lt i j)
