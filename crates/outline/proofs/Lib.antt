@@ -1,4 +1,5 @@
 pub mod Answered
 pub mod Gather
 pub mod Kids
+pub mod Reading
 pub mod Settle

@@ -1,4 +1,5 @@
 pub mod Building
 pub mod Law
 pub mod Nesting
+pub mod Reading
 pub mod Trees

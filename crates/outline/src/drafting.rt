@@ -1,0 +1,1 @@
+//! Adding lines to a draft.

@@ -1,0 +1,1 @@
+//! A draft: the entries of the lines read so far.
