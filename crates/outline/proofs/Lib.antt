@@ -1,4 +1,5 @@
 pub mod Answered
+pub mod Drafted
 pub mod Gather
 pub mod Kids
 pub mod Reading

@@ -5,9 +5,12 @@ use mathlib.Core.Path.{_≡_, refl, sym, ap, subst, _∙_}
 use native.Mathlib.Omega.{arith}
 use Prim.Native.Nat.{ℕ, _+_, _-_, _<_, _≤_}
 use lib.ListN.{length, getD, take, drop, set, length-append, length-drop}
-use Rattle.std.proofs.shelf.Lists.{take-append-le, drop-append-le, take-all, drop-at, getD-set-same, getD-set-other, getD-past}
+use Rattle.std.proofs.shelf.Lists.{take-append-le, drop-append-le, take-all, drop-at, getD-set-same, getD-set-other, getD-past, refilled-is}
 use Rattle.std.proofs.shelf.Tests.{cases-lt}
-use Rattle.outline.specs.Building.{Gathering, Settled, SettledFrom}
+use Rattle.std.specs.Changed.{refilled}
+use Rattle.std.specs.declared.alloc.Global.{Global}
+use Rattle.std.specs.declared.vec.Vec.{Vec}
+use Rattle.outline.specs.Building.{Arranged, Gathering, Settled, SettledFrom}
 use Rattle.outline.specs.Nesting.{at, highest, kids, run-of}
 use Rattle.outline.specs.declared.building.Gathered.{Gathered}
 use Rattle.outline.specs.declared.entries.Entry.{Entry}
@@ -20,15 +23,24 @@ run-grows children more p h =
     let l = length-drop (p .first) children in
     ap (take (p .count)) (drop-append-le (p .first) children more (omega arith)) ∙ take-append-le (p .count) (drop (p .first) children) more (omega arith)
 
--- and so does a settled entry, when one before it is written
-stays : (depths : List ℕ) (places : List Place) (children more : List Entry) (i j : ℕ) (p q : Place) → i < j → Settled depths places children j q → Settled depths (set places i p) (children ++ more) j q
-stays depths places children more i j p q l s =
+-- and a settled entry stays settled,
+pub grows : (depths : List ℕ) (places : List Place) (children more : List Entry) (j : ℕ) (q : Place) → Settled depths places children j q → Settled depths places (children ++ more) j q
+grows depths places children more j q s =
     let grown = run-grows children more q (s .fits) in
-    let same : highest (set places i p) (run-of (children ++ more) q) ≡ highest places (run-of children q) =
-        ap (highest (set places i p)) (grown ∙ s .run) ∙ highest-set places i p (getD depths j 0 + 1) (j + 1) (drop (j + 1) depths) (omega arith) ∙ ap (highest places) (sym (s .run)) in
     record {
       fits = omega (arith, length-append children more, s .fits);
       run = grown ∙ s .run;
+      height = s .height ∙ ap (λ es. 1 + highest places es) (sym grown);
+      shallow = s .shallow; after = s .after; past = s .past; below = s .below; stops = s .stops
+    }
+
+-- also when the place of one before it is written
+stays : (depths : List ℕ) (places : List Place) (children : List Entry) (i j : ℕ) (p q : Place) → i < j → Settled depths places children j q → Settled depths (set places i p) children j q
+stays depths places children i j p q l s =
+    let same : highest (set places i p) (run-of children q) ≡ highest places (run-of children q) =
+        ap (highest (set places i p)) (s .run) ∙ highest-set places i p (getD depths j 0 + 1) (j + 1) (drop (j + 1) depths) (omega arith) ∙ ap (highest places) (sym (s .run)) in
+    record {
+      fits = s .fits; run = s .run;
       height = omega (arith, s .height, same);
       shallow = s .shallow; after = s .after; past = s .past; below = s .below; stops = s .stops
     }
@@ -68,10 +80,34 @@ module _ (depths : List ℕ) (places : List Place) (before after : List Entry) (
           let ne : j ≢ i = omega arith in
           let P : Place → Type 0 = Settled depths (set places i p) after j in
           let Q : List Entry → Type 0 = λ es. Settled depths (set places i p) es j (at places j) in
-          subst P (sym (getD-set-other places i j p _ ne)) (subst Q (sym (gathered .appended)) (stays depths places before _ i j p (at places j) behind (later j (omega arith) b))))
+          subst P (sym (getD-set-other places i j p _ ne)) (subst Q (sym (gathered .appended)) (stays depths places _ i j p (at places j) behind (grows depths places before _ j (at places j) (later j (omega arith) b)))))
         (λ here.
           let P : ℕ → Type 0 = λ k. Settled depths (set places i p) after k (at (set places i p) k) in
           let Q : Place → Type 0 = Settled depths (set places i p) after i in
           let same : i ≡ j = omega arith in
           subst P same (subst Q (sym (getD-set-same places i p _ (omega arith))) new))
         (cases-lt i j)
+
+pub arranged : {depths : List ℕ} {places : List Place} {before after : List Entry} {g : Gathered} {top : ℕ} → length places ≡ length depths → SettledFrom depths places before 0
+  → Gathering depths places 0 0 before g after → top ≡ length before → Arranged depths places after top
+arranged {depths = depths} {places = places} {before = before} {after = after} {top = top} long settled gathered e =
+    let more = kids 0 0 depths in
+    let each : (i : ℕ) → i < length places → Settled depths places after i (at places i) =
+        λ i l. let P : List Entry → Type 0 = λ es. Settled depths places es i (at places i) in
+          subst P (sym (gathered .appended)) (grows depths places before more i (at places i) (settled i (omega arith) (omega arith))) in
+    record {
+      long = long;
+      fits = λ i l. each i l .fits;
+      runs = λ i l. each i l .run;
+      measured = λ i l. each i l .height;
+      shallow = λ i l. each i l .shallow;
+      rooted = ap (drop top) (gathered .appended) ∙ drop-at before more top (sym e)
+    }
+
+-- a vector whose places were lent and settled
+pub lent : {depths : List ℕ} {children : List Entry} (v : Vec Place Global) (ws : List Place) {places : List Place} → length ws ≡ v .len → v .len ≡ length depths → places ≡ refilled v ws .items
+  → SettledFrom depths ws children 0 → (length places ≡ length depths) × SettledFrom depths places children 0
+lent {depths = depths} {children = children} v ws {places = places} e f is settled =
+    let P : List Place → Type 0 = λ ps. SettledFrom depths ps children 0 in
+    let same : places ≡ ws = is ∙ refilled-is v ws e in
+    (ap length same ∙ e ∙ f, subst P (sym same) settled)

@@ -3,7 +3,7 @@ use mathlib.Core.List.{List, _++_}
 use mathlib.Core.Path.{_≡_}
 use Prim.Native.Nat.{ℕ, _+_, _<_, _≤_}
 use lib.ListN.{length, getD, drop}
-use Rattle.outline.specs.Nesting.{at, highest, kids, run-of}
+use Rattle.outline.specs.Nesting.{Fit, Measured, Run, Shallow, at, highest, kids, run-of}
 use Rattle.outline.specs.declared.building.Gathered.{Gathered}
 use Rattle.outline.specs.declared.entries.Entry.{Entry}
 use Rattle.outline.specs.declared.entries.Place.{Place}
@@ -35,3 +35,12 @@ pub record Gathering (depths : List ℕ) (places : List Place) (from depth : ℕ
   pub high : g .past ≤ length depths
   pub deep : (k : ℕ) → from ≤ k → k < g .past → depth ≤ getD depths k 0
   pub stops : g .past < length depths → getD depths (g .past) 0 < depth
+
+-- every entry is settled, and the outermost entries end the list of children
+pub record Arranged (depths : List ℕ) (places : List Place) (children : List Entry) (top : ℕ) : Type 0 where
+  pub long : length places ≡ length depths
+  pub fits : Fit places children
+  pub runs : Run depths places children
+  pub measured : Measured places children
+  pub shallow : Shallow depths places
+  pub rooted : drop top children ≡ kids 0 0 depths

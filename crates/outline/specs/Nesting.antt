@@ -49,3 +49,7 @@ Measured places children = (i : ℕ) → i < length places → at places i .heig
 -- the levels above an entry and those from it down are at most 64 together
 abbrev pub Shallow : List ℕ → List Place → Type 0
 Shallow depths places = (i : ℕ) → i < length places → getD depths i 0 + at places i .height ≤ 64
+
+-- no entry is below level 64
+abbrev pub Within : List ℕ → Type 0
+Within depths = (i : ℕ) → getD depths i 0 < 64

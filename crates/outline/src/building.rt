@@ -1,7 +1,7 @@
 //! How the runs of children are found: from the last entry to the first, so that what lies below is settled before.
-ghost use Prim.Native.Nat.{ℕ, _+_, _<_, _≤_};
-ghost use Rattle.outline.specs.Building.{Gathering, SettledFrom};
-ghost use Rattle.outline.specs.Nesting.{Outermost, Stepwise};
+ghost use Prim.Native.Nat.{_≤_};
+ghost use Rattle.outline.specs.Building.{Arranged, Gathering, SettledFrom};
+ghost use Rattle.outline.specs.Nesting.{Outermost, Stepwise, Within};
 ghost use Rattle.std.specs.Of.Vec.{vec-items};
 ghost use Rattle.std.specs.Vec.{made};
 ghost use lib.ListN.{getD, length};
@@ -9,6 +9,7 @@ ghost use mathlib.Core.Path.{_≡_};
 use crate::entries::Entry;
 use crate::entries::Place;
 use std::alloc::AllocError;
+use std::alloc::Global;
 
 // What was gathered: the height of the highest entry of the run, and the number just past all below them.
 #[derive(Clone, Copy)]
@@ -39,7 +40,7 @@ pub(crate) fn gather(depths: &[usize], places: &[Place], from: usize, depth: usi
 // Settles every entry: its run of children, its height and the number just past its last descendant.
 pub(crate) fn settle(depths: &[usize], places: &mut [Place], children: &mut Vec<Entry>) -> Result<(), AllocError>
     requires long { ⌜ length (now places) ≡ length (now depths) ⌝ }
-    requires shallow { ⌜ ((i : ℕ) → getD (now depths) i 0 < 64) ⌝ }
+    requires within { ⌜ Within (now depths) ⌝ }
     requires stepwise { ⌜ Stepwise (now depths) ⌝ }
     ensures { λ r. ⌜ made r (λ _. SettledFrom (now (depths .entry)) (now (places .exit)) (vec-items (now (children .exit))) 0) ⌝ }
 {
@@ -50,4 +51,27 @@ pub(crate) fn settle(depths: &[usize], places: &mut [Place], children: &mut Vec<
         places[i] = Place { first, count, height: gathered.height + 1, past: gathered.past };
     }
     Ok(())
+}
+
+// The place of each entry and the runs of children, with the entries of the outermost level from `top` on.
+#[derive(Drop)]
+pub struct Runs {
+    pub(crate) places: Vec<Place>,
+    pub(crate) children: Vec<Entry>,
+    pub(crate) top: usize,
+}
+
+// The runs of an outline, by how deep each entry is.
+pub(crate) fn arrange(heap: Global, depths: &[usize]) -> Result<Runs, AllocError>
+    requires within { ⌜ Within (now depths) ⌝ }
+    requires outermost { ⌜ Outermost (now depths) ⌝ }
+    requires stepwise { ⌜ Stepwise (now depths) ⌝ }
+    ensures { λ r. ⌜ made r (λ t. Arranged (now (depths .entry)) (vec-items (t .places)) (vec-items (t .children)) (t .top)) ⌝ }
+{
+    let mut places = vec![in heap; Place { first: 0, count: 0, height: 0, past: 0 }; depths.len()]?;
+    let mut children = Vec::with_capacity(heap, depths.len())?;
+    settle(depths, places.as_mut_slice(), &mut children)?;
+    let top = children.len();
+    gather(depths, &places, 0, 0, &mut children)?;
+    Ok(Runs { places, children, top })
 }

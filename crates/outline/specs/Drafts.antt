@@ -1,0 +1,61 @@
+-- What a line adds to a draft. Assumes nothing.
+use mathlib.Core.Bool.{cond}
+use mathlib.Core.List.{List, [], _∷_, _++_, map}
+use mathlib.Core.Logic.{_⊎_}
+use mathlib.Core.Path.{_≡_}
+use Prim.Native.Nat.{ℕ, min, _+_, _-_, _^_}
+use lib.Dec.{eqb, ltb}
+use lib.ListN.{length, getD}
+use Rattle.std.specs.Of.String.{string-bytes}
+use Rattle.std.specs.Of.Vec.{vec-items, vec-len}
+use Rattle.std.specs.declared.alloc.Global.{Global}
+use Rattle.std.specs.declared.option.Option.{Option}
+use Rattle.std.specs.declared.option.Option.the-variants.{None, Some}
+use Rattle.std.specs.declared.result.Result.{Result}
+use Rattle.std.specs.declared.result.Result.the-variants.{Ok, Err}
+use Rattle.std.specs.declared.string.String.{String}
+use Rattle.std.specs.declared.vec.Vec.{Vec}
+use Rattle.outline.specs.Reading.{reading, text-of}
+use Rattle.outline.specs.declared.drafts.Draft.{Draft}
+use Rattle.outline.specs.declared.faults.OutlineFault.{OutlineFault}
+use Rattle.outline.specs.declared.faults.OutlineFault.the-variants.{Full, Memory}
+use Rattle.outline.specs.declared.outlines.Outline.{Outline}
+
+-- the texts of some entries, by their bytes
+abbrev pub texts-of : Vec (String Global) Global → List (List ℕ)
+texts-of texts = map string-bytes (vec-items texts)
+
+-- how deep the next entry may be: the first outermost, each other one level below the entry before
+abbrev pub most-after : List ℕ → ℕ
+most-after depths = cond (eqb (length depths) 0) 0 (getD depths (length depths - 1) 0 + 1)
+
+-- the number of the line after so many
+abbrev pub number-after : ℕ → ℕ
+number-after lines = min (lines + 1) (2 ^ 64 - 1)
+
+-- an entry more than 4,096 is refused
+abbrev pub bounded : ℕ → ℕ → Result (Option ℕ) OutlineFault → Result (Option ℕ) OutlineFault
+bounded count number (Ok None) = Ok None
+bounded count number (Ok (Some d)) = cond (ltb count 4096) (Ok (Some d)) (Err (Full number))
+bounded count number (Err f) = Err f
+
+-- how deep the entry of the next line is, or none for a line without text, or why the line is refused
+abbrev pub judged : Draft → List ℕ → Result (Option ℕ) OutlineFault
+judged draft line =
+    let number = number-after (draft .lines) in
+    bounded (vec-len (draft .depths)) number (reading line number (most-after (vec-items (draft .depths))))
+
+-- what the line then adds
+abbrev pub grown : Result (Option ℕ) OutlineFault → Draft → List ℕ → Draft → Type 0
+grown (Ok None) before line after = (vec-items (after .depths) ≡ vec-items (before .depths)) × (texts-of (after .texts) ≡ texts-of (before .texts))
+grown (Ok (Some d)) before line after = (vec-items (after .depths) ≡ vec-items (before .depths) ++ d ∷ []) × (texts-of (after .texts) ≡ texts-of (before .texts) ++ text-of line ∷ [])
+grown (Err f) before line after = ⊥
+
+-- A line was added, and counted; or it was refused, for a fault of its own or for want of memory.
+abbrev pub Added : Draft → List ℕ → Result Draft OutlineFault → Type 0
+Added before line (Ok after) = grown (judged before line) before line after × (after .lines ≡ number-after (before .lines))
+Added before line (Err f) = (judged before line ≡ Err f) ⊎ (f ≡ Memory)
+
+-- an outline has the entries of a draft
+abbrev pub Finished : Draft → Outline → Type 0
+Finished draft o = (vec-items (o .depths) ≡ vec-items (draft .depths)) × (texts-of (o .texts) ≡ texts-of (draft .texts))
