@@ -4,3 +4,4 @@ pub mod Gather
 pub mod Kids
 pub mod Reading
 pub mod Settle
+pub mod Visiting

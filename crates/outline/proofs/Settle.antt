@@ -101,6 +101,7 @@ arranged {depths = depths} {places = places} {before = before} {after = after} {
       runs = λ i l. each i l .run;
       measured = λ i l. each i l .height;
       shallow = λ i l. each i l .shallow;
+      topped = omega (arith, grew gathered, e);
       rooted = ap (drop top) (gathered .appended) ∙ drop-at before more top (sym e)
     }
 

@@ -43,4 +43,5 @@ pub record Arranged (depths : List ℕ) (places : List Place) (children : List E
   pub runs : Run depths places children
   pub measured : Measured places children
   pub shallow : Shallow depths places
+  pub topped : top ≤ length children
   pub rooted : drop top children ≡ kids 0 0 depths

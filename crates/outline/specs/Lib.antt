@@ -4,3 +4,4 @@ pub mod Law
 pub mod Nesting
 pub mod Reading
 pub mod Trees
+pub mod Visits

@@ -7,3 +7,4 @@ pub mod faults;
 pub mod lines;
 pub mod outlines;
 pub mod questions;
+pub mod visitors;

@@ -26,5 +26,6 @@ pub struct Outline {
     ghost runs: { Run (vec-items depths) (vec-items places) (vec-items children) },
     ghost measured: { Measured (vec-items places) (vec-items children) },
     ghost shallow: { Shallow (vec-items depths) (vec-items places) },
+    ghost topped: { top ≤ vec-len children },
     ghost rooted: { drop top (vec-items children) ≡ kids 0 0 (vec-items depths) },
 }

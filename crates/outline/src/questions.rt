@@ -1,8 +1,11 @@
 //! What an outline answers: its entries and their texts, and the four questions of a tree.
 ghost use Rattle.outline.specs.Law.{outline-law};
-ghost use Rattle.outline.specs.Trees.{children-in, height-in, known-in, missing-in, place-of};
-ghost use Rattle.std.specs.Of.Vec.{vec-len};
+ghost use Rattle.outline.specs.Nesting.{kids};
+ghost use Rattle.outline.specs.Trees.{children-in, height-in, known-in, missing-in, place-of, text-in};
+ghost use Rattle.std.specs.Of.Vec.{vec-items, vec-len};
+ghost use Rattle.std.specs.Results.{Cases};
 ghost use Rattle.tree.specs.Answers.{told};
+ghost use mathlib.Core.Bool.{false, true};
 ghost use mathlib.Core.Path.{_≡_};
 use crate::entries::Entry;
 use crate::entries::NoEntry;
@@ -17,6 +20,25 @@ impl Outline {
         ensures { λ r. ⌜ r ≡ vec-len (now (self .entry) .depths) ⌝ }
     {
         self.depths.len()
+    }
+
+    /// The entries of the outermost level, in the order of their lines.
+    pub fn roots(&self) -> &[Entry]
+        ensures { λ r. ⌜ now r ≡ kids 0 0 (vec-items (now (self .entry) .depths)) ⌝ }
+    {
+        let top = self.top;
+        &self.children[top..]
+    }
+
+    /// The text of an entry; fault 2 at one that the outline does not have.
+    pub fn text(&self, e: Entry) -> Result<&str, NoEntry>
+        ensures { λ r. ⌜ Cases r (λ t. (known-in (now (self .entry)) e ≡ true) × (now t ≡ text-in (now (self .entry)) e)) (λ f. (known-in (now (self .entry)) e ≡ false) × (f ≡ missing-in (now (self .entry)) e)) ⌝ }
+    {
+        if e.number < self.texts.len() {
+            Ok(self.texts[e.number].as_str())
+        } else {
+            Err(NoEntry { entry: e })
+        }
     }
 
     // The place of an entry in the tree.
