@@ -1,3 +1,7 @@
 pub mod Asked
+pub mod Law
 pub mod Lengths
+pub mod Listed
+pub mod Order
 pub mod Steps
+pub mod Tallied

@@ -28,8 +28,8 @@ module _ {S N : Type 0} (next : S → List N → S) (accepts : S → List N → 
   run-on s (p ∷ ps) qs s′ e = go (accepts s p) (run-on (next s p) ps qs s′) e
     where
       go : (b : Bool) → (run next accepts (next s p) ps ≡ (s′, None) → run next accepts (next s p) (ps ++ qs) ≡ run next accepts s′ qs)
-        → _≡_ {A = S × Option (List N)} (cond b (run next accepts (next s p) ps) (next s p, Some p)) (s′, None)
-        → cond b (run next accepts (next s p) (ps ++ qs)) (next s p, Some p) ≡ run next accepts s′ qs
+          → _≡_ {A = S × Option (List N)} (cond b (run next accepts (next s p) ps) (next s p, Some p)) (s′, None)
+          → cond b (run next accepts (next s p) (ps ++ qs)) (next s p, Some p) ≡ run next accepts s′ qs
       go true rest e′ = rest e′
       go false rest e′ = absurd (some-none (ap (λ x. x .1) e′))
 
@@ -39,8 +39,8 @@ module _ {S N : Type 0} (next : S → List N → S) (accepts : S → List N → 
   run-stops s (p ∷ ps) qs s′ q e = go (accepts s p) (run-stops (next s p) ps qs s′ q) e
     where
       go : (b : Bool) → (run next accepts (next s p) ps ≡ (s′, Some q) → run next accepts (next s p) (ps ++ qs) ≡ (s′, Some q))
-        → _≡_ {A = S × Option (List N)} (cond b (run next accepts (next s p) ps) (next s p, Some p)) (s′, Some q)
-        → _≡_ {A = S × Option (List N)} (cond b (run next accepts (next s p) (ps ++ qs)) (next s p, Some p)) (s′, Some q)
+          → _≡_ {A = S × Option (List N)} (cond b (run next accepts (next s p) ps) (next s p, Some p)) (s′, Some q)
+          → _≡_ {A = S × Option (List N)} (cond b (run next accepts (next s p) (ps ++ qs)) (next s p, Some p)) (s′, Some q)
       go true rest e′ = rest e′
       go false rest e′ = e′
 
@@ -58,13 +58,13 @@ module _ {S N : Type 0} (next : S → List N → S) (accepts : S → List N → 
 
   -- then its children in turn, behind the path q that ends at it
   module _ (children : N → List N) (n : N) (q : List N) (h i : ℕ) (s₀ s : S)
-    (so-far : run next accepts s₀ (joined (paths children h q) (children n)) ≡ run next accepts s (joined (paths children h q) (drop i (children n)))) where
+      (so-far : run next accepts s₀ (joined (paths children h q) (children n)) ≡ run next accepts s (joined (paths children h q) (drop i (children n)))) where
     pub branches-done : length (children n) ≤ i → run next accepts s₀ (joined (paths children h q) (children n)) ≡ (s, None)
     branches-done past = so-far ∙ ap (run next accepts s) (at-drop-all (joined (paths children h q)) (children n) i past)
 
     -- the child c at i, which was shown behind the path p, with the answer r and the path p′ left
     module _ (c : N) (within : i < length (children n)) (is : c ≡ child-of children n i) (p p′ : List N) (at : p ≡ q) (s′ : S) (r : Bool)
-      (ran : run next accepts s (paths children h p c) ≡ (s′, cond r None (Some p′))) where
+        (ran : run next accepts s (paths children h p c) ≡ (s′, cond r None (Some p′))) where
       first : joined (paths children h q) (drop i (children n)) ≡ paths children h p c ++ joined (paths children h q) (drop (i + 1) (children n))
       first =
           at-drop-more (joined (paths children h q)) (children n) i n within

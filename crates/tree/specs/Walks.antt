@@ -37,7 +37,7 @@ Accepted children next accepts start initial s shown line =
 
 -- The walk law, over the list of lines shown.
 pub record WalkLaw {S N : Type 0} (children : N → List N) (next : S → List N → S) (accepts : S → List N → Bool) (start : N) (initial : List N) (before : S)
-  (outcome : Outcome) (left : List N) (held : S) (shown : List (List ℕ)) : Type 0 where
+    (outcome : Outcome) (left : List N) (held : S) (shown : List (List ℕ)) : Type 0 where
   -- a line of descent is shown only if every line before it in document order was shown and accepted,
   pub only : (line : List ℕ) → In shown line → Follow children start line × ((m : List ℕ) → Follow children start m → Before m line → Accepted children next accepts start initial before shown m)
   -- and is shown if that is so,
@@ -69,7 +69,7 @@ refusal known heights missing start path = room heights start (length (names-of 
 -- A walk that is due a refusal is refused with it, and the path, its memory and the visitor are what they were.
 -- Any other meets the walk law.
 abbrev pub Walked : {S N F : Type 0} → (N → Bool) → (N → ℕ) → (N → List N) → (N → F) → (S → List N → S) → (S → List N → Bool) → N
-  → PathStack N → S → Result Outcome (WalkFault N F) → PathStack N → S → Type 0
+    → PathStack N → S → Result Outcome (WalkFault N F) → PathStack N → S → Type 0
 Walked known heights children missing next accepts start path s (Ok outcome) path′ s′ =
     (refusal known heights missing start path ≡ None)
     × ((shown : List (List ℕ)) × WalkLaw children next accepts start (names-of path) s outcome (names-of path′) s′ shown)

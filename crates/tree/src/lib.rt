@@ -6,6 +6,7 @@ pub mod faults;
 pub mod limits;
 pub mod paths;
 pub mod stacks;
+pub mod tallies;
 pub mod trees;
 pub mod visitors;
 pub mod walks;

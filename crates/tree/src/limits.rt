@@ -1,8 +1,11 @@
 //! The memories that a caller lends, and the limit of each.
 ghost use Prim.Native.Nat.{_<_, _≤_};
 ghost use Rattle.std.specs.Results.{Cases};
+ghost use Rattle.tree.specs.Faults.{memory-layer, memory-number};
 ghost use Rattle.tree.specs.Limits.{limit-of};
 ghost use mathlib.Core.Path.{_≡_};
+use crate::faults::Fault;
+use crate::faults::Layer;
 
 /// What a lent memory is for.
 #[derive(Clone, Copy, PartialEq, Eq, Debug)]
@@ -46,4 +49,18 @@ impl Memory {
 #[derive(Clone, Copy, PartialEq, Eq, Debug)]
 pub struct MemoryFault {
     pub memory: Memory,
+}
+
+pub impl Fault for MemoryFault as MemoryFaultNumbered {
+    ghost numbered = { memory-number };
+
+    ghost found = { memory-layer };
+
+    fn number(&self) -> u8 {
+        1
+    }
+
+    fn layer(&self) -> Layer {
+        Layer::Memory
+    }
 }

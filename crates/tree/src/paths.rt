@@ -1,12 +1,15 @@
 //! Making a path and reading it, and one name more or less on it.
 ghost use Prim.Native.Nat.{_<_, _≤_, _+_, min};
 ghost use Rattle.std.specs.Results.{Cases};
+ghost use Rattle.tree.specs.Faults.{path-layer, path-number};
 ghost use Rattle.tree.specs.Paths.{Popped, Pushed, SameMemory, capacity-of, names-of};
 ghost use Rattle.tree.specs.declared.limits.Memory.the-variants.{Path};
 ghost use denote.Ref.{name};
 ghost use lib.ListN.{length, take};
 ghost use mathlib.Core.List.{[], _∷_, _++_};
 ghost use mathlib.Core.Path.{_≡_};
+use crate::faults::Fault;
+use crate::faults::Layer;
 use crate::limits::Memory;
 use crate::limits::MemoryFault;
 use crate::stacks::PathStack;
@@ -15,6 +18,20 @@ use crate::stacks::PathStack;
 #[derive(Clone, Copy, PartialEq, Eq, Debug)]
 pub struct PathFault<N> {
     pub place: N,
+}
+
+pub impl<N> Fault for PathFault<N> as PathFaultNumbered {
+    ghost numbered = { path-number };
+
+    ghost found = { path-layer };
+
+    fn number(&self) -> u8 {
+        9
+    }
+
+    fn layer(&self) -> Layer {
+        Layer::Path
+    }
 }
 
 /// Fault 1 where more than 128 places are lent for a path, and only there. It only checks.

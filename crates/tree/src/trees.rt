@@ -7,7 +7,6 @@ ghost use lib.ListN.{length};
 ghost use mathlib.Core.Bool.{Bool, _&&_};
 ghost use mathlib.Core.List.{List};
 ghost use mathlib.Core.Path.{_≡_};
-
 use crate::faults::Fault;
 
 /// A tree, by what its names mean: which it knows, how high each is, which children each has.
@@ -34,14 +33,16 @@ pub trait Tree {
 
     /// The height of a known name; fault 2 at any other.
     fn height(&self, n: Self::Name) -> Result<usize, Self::Fault>
-        ensures second { λ _. ⌜ Fault·Fault .numbered (missing (now (self .entry)) n) ≡ 2 ⌝ }
-        ensures value { λ r. ⌜ r ≡ told (known (now (self .entry)) n) (heights (now (self .entry)) n) (missing (now (self .entry)) n) ⌝ };
+        ensures value { λ r. ⌜ r ≡ told (known (now (self .entry)) n) (heights (now (self .entry)) n) (missing (now (self .entry)) n) ⌝ }
+        ensures number { λ _. ⌜ Fault·Fault .numbered (missing (now (self .entry)) n) ≡ 2 ⌝ };
 
     /// How many children a known name has; fault 2 at any other.
     fn child_count(&self, n: Self::Name) -> Result<usize, Self::Fault>
-        ensures { λ r. ⌜ r ≡ told (known (now (self .entry)) n) (length (children (now (self .entry)) n)) (missing (now (self .entry)) n) ⌝ };
+        ensures value { λ r. ⌜ r ≡ told (known (now (self .entry)) n) (length (children (now (self .entry)) n)) (missing (now (self .entry)) n) ⌝ }
+        ensures number { λ _. ⌜ Fault·Fault .numbered (missing (now (self .entry)) n) ≡ 2 ⌝ };
 
     /// The child at a number, counted from 0; fault 2 at an unknown name or past the last child.
     fn child(&self, n: Self::Name, i: usize) -> Result<Self::Name, Self::Fault>
-        ensures { λ r. ⌜ r ≡ told (known (now (self .entry)) n && ltb i (length (children (now (self .entry)) n))) (child-of (children (now (self .entry))) n i) (missing (now (self .entry)) n) ⌝ };
+        ensures value { λ r. ⌜ r ≡ told (known (now (self .entry)) n && ltb i (length (children (now (self .entry)) n))) (child-of (children (now (self .entry))) n i) (missing (now (self .entry)) n) ⌝ }
+        ensures number { λ _. ⌜ Fault·Fault .numbered (missing (now (self .entry)) n) ≡ 2 ⌝ };
 }

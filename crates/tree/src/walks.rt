@@ -1,18 +1,24 @@
 //! The walk: every line of descent, shown once and in document order, up to the first no.
 ghost use Prim.Native.Nat.{ℕ, _+_, _≤_};
 ghost use Rattle.std.specs.declared.option.Option.the-variants.{None, Some};
+ghost use Rattle.tree.specs.Faults.{walk-layer, walk-number};
 ghost use Rattle.tree.specs.Paths.{SameMemory, capacity-of, names-of};
 ghost use Rattle.tree.specs.Runs.{paths as shown-paths, run};
-ghost use Rattle.tree.specs.Walks.{Walked, first-missing, refusal};
+ghost use Rattle.tree.specs.Walks.{WalkLaw, Walked, first-missing, refusal};
+ghost use Rattle.tree.specs.declared.walks.Outcome.the-variants.{Finished, Stopped};
 ghost use mathlib.Core.Bool.{cond, true};
+ghost use mathlib.Core.List.{List};
 ghost use mathlib.Core.Path.{_≡_};
+use crate::faults::Fault;
+use crate::faults::Layer;
 use crate::paths::PathFault;
+use crate::paths::PathFaultClone;
+use crate::paths::PathFaultDebug;
+use crate::paths::PathFaultNumbered;
+use crate::paths::PathFaultPartialEq;
 use crate::stacks::PathStack;
 use crate::trees::Tree;
 use crate::visitors::Visitor;
-use crate::paths::PathFaultClone;
-use crate::paths::PathFaultDebug;
-use crate::paths::PathFaultPartialEq;
 
 /// How a walk ended: every line shown, or stopped at a no.
 #[derive(Clone, Copy, PartialEq, Eq, Debug)]
@@ -21,11 +27,44 @@ pub enum Outcome {
     Stopped,
 }
 
+impl Outcome {
+    // Finished where all lines were shown and accepted.
+    fn after(all: bool) -> Outcome
+        ensures { λ r. ⌜ r ≡ cond all Finished Stopped ⌝ }
+    {
+        if all {
+            Outcome::Finished
+        } else {
+            Outcome::Stopped
+        }
+    }
+}
+
 /// A walk's refusal: the tree's own fault at an unknown name (2), or a path that is too short (9).
 #[derive(Clone, Copy, PartialEq, Eq, Debug)]
 pub enum WalkFault<N, F> {
     Tree(F),
     Path(PathFault<N>),
+}
+
+pub impl<N, F: Fault> Fault for WalkFault<N, F> as WalkFaultNumbered {
+    ghost numbered = { walk-number numbered };
+
+    ghost found = { walk-layer found };
+
+    fn number(&self) -> u8 {
+        match self {
+            WalkFault::Tree(fault) => fault.number(),
+            WalkFault::Path(fault) => fault.number(),
+        }
+    }
+
+    fn layer(&self) -> Layer {
+        match self {
+            WalkFault::Tree(fault) => fault.layer(),
+            WalkFault::Path(fault) => fault.layer(),
+        }
+    }
 }
 
 // The fault at the first name that the tree does not know.
@@ -41,7 +80,12 @@ fn first_unknown<T: Tree>(tree: &T, names: &[T::Name]) -> Option<T::Fault>
 }
 
 // Shows the lines from a known name, behind the path that leads to it; false after a no.
-fn show<T: Tree, V: Visitor<T>>(tree: &T, n: T::Name, path: &mut PathStack<'_, T::Name>, visitor: &mut V) -> bool
+fn show<T: Tree, V: Visitor<T>>(
+    tree: &T,
+    n: T::Name,
+    path: &mut PathStack<'_, T::Name>,
+    visitor: &mut V,
+) -> bool
     requires known { ⌜ known (now tree) n ≡ true ⌝ }
     requires room { ⌜ now path .len + heights (now tree) n ≤ capacity-of (now path) ⌝ }
     ensures ran { λ r. ⌜ ((h : ℕ) → heights (now (tree .entry)) n ≤ h → run (λ s q. next s (now (tree .entry)) q) (λ s q. accepts s (now (tree .entry)) q) (now (visitor .entry)) (shown-paths (children (now (tree .entry))) h (names-of (now (path .entry))) n) ≡ (now (visitor .exit), cond r None (Some (names-of (now (path .exit)))))) ⌝ }
@@ -63,8 +107,28 @@ fn show<T: Tree, V: Visitor<T>>(tree: &T, n: T::Name, path: &mut PathStack<'_, T
     true
 }
 
-// The refusal that is due before anything is shown, or the height of the start.
-fn refused<T: Tree>(tree: &T, start: T::Name, path: &PathStack<'_, T::Name>) -> Option<WalkFault<T::Name, T::Fault>>
+// Shows the lines from a known start for which the path has room.
+fn show_lines<T: Tree, V: Visitor<T>>(
+    tree: &T,
+    start: T::Name,
+    path: &mut PathStack<'_, T::Name>,
+    visitor: &mut V,
+) -> Outcome
+    requires known { ⌜ known (now tree) start ≡ true ⌝ }
+    requires room { ⌜ now path .len + heights (now tree) start ≤ capacity-of (now path) ⌝ }
+    ensures law { λ r. ⌜ ((shown : List (List ℕ)) × WalkLaw (children (now (tree .entry))) (λ s q. next s (now (tree .entry)) q) (λ s q. accepts s (now (tree .entry)) q) start (names-of (now (path .entry))) (now (visitor .entry)) r (names-of (now (path .exit))) (now (visitor .exit)) shown) ⌝ }
+    ensures memory { λ _. ⌜ SameMemory (now (path .entry)) (now (path .exit)) ⌝ }
+{
+    let all = show(tree, start, path, visitor);
+    Outcome::after(all)
+}
+
+// The refusal that is due before anything is shown, or none.
+fn refused<T: Tree>(
+    tree: &T,
+    start: T::Name,
+    path: &PathStack<'_, T::Name>,
+) -> Option<WalkFault<T::Name, T::Fault>>
     ensures { λ r. ⌜ r ≡ refusal (known (now (tree .entry))) (heights (now (tree .entry))) (missing (now (tree .entry))) start (now (path .entry)) ⌝ }
 {
     let height = match tree.height(start) {
@@ -96,9 +160,5 @@ pub fn walk<T: Tree, V: Visitor<T>>(
     if let Some(fault) = refused(tree, start, path) {
         return Err(fault);
     }
-    if show(tree, start, path, visitor) {
-        Ok(Outcome::Finished)
-    } else {
-        Ok(Outcome::Stopped)
-    }
+    Ok(show_lines(tree, start, path, visitor))
 }

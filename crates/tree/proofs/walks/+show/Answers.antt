@@ -31,10 +31,10 @@ show-requires g t c κs within =
     let n = c .args .n in
     let law = g .T·Tree .lawful tree in
     let missing = g .T·Tree .missing tree in
-    let count = counted law missing n (c .child-count .ensures) (c .unwrap-count .ensures) in
+    let count = counted law missing n (c .child-count .ensures .value) (c .unwrap-count .ensures) in
     let inside : c .loop-i .i < length (g .T·Tree .children tree n) = omega arith in
-    let known = child-known law missing n (c .loop-i .i) (c .child .ensures) (c .unwrap-child .ensures) (c .pre .known) inside in
-    let lower = child-lower law missing n (c .loop-i .i) (c .child .ensures) (c .unwrap-child .ensures) (c .pre .known) inside in
+    let known = child-known law missing n (c .loop-i .i) (c .child .ensures .value) (c .unwrap-child .ensures) (c .pre .known) inside in
+    let lower = child-lower law missing n (c .loop-i .i) (c .child .ensures .value) (c .unwrap-child .ensures) (c .pre .known) inside in
     let long = same-long (c .loop-i .path) (c .put .last .self) (c .loop-i .inv .0) in
     let longer = one-longer (c .args .path .now) (c .put .last .self) n (c .put .ensures .names) in
     let sized = c .loop-i .inv .1 .sized in
@@ -49,16 +49,16 @@ returns-then-not-show g t c =
     let law = g .T·Tree .lawful tree in
     let children = g .T·Tree .children tree in
     let missing = g .T·Tree .missing tree in
-    let count = counted law missing n (c .child-count .ensures) (c .unwrap-count .ensures) in
+    let count = counted law missing n (c .child-count .ensures .value) (c .unwrap-count .ensures) in
     let inside : c .loop-i .i < length (children n) = omega arith in
-    let is = child-is law missing n (c .loop-i .i) (c .child .ensures) (c .unwrap-child .ensures) in
-    let lower = child-lower law missing n (c .loop-i .i) (c .child .ensures) (c .unwrap-child .ensures) (c .pre .known) inside in
+    let is = child-is law missing n (c .loop-i .i) (c .child .ensures .value) (c .unwrap-child .ensures) in
+    let lower = child-lower law missing n (c .loop-i .i) (c .child .ensures .value) (c .unwrap-child .ensures) (c .pre .known) inside in
     record {
       ran = by-fuel _ _ (law .low n (c .pre .known)) (λ h le.
-        shown-yes (λ s q. g .V·Visitor .next s tree q) (λ s q. g .V·Visitor .accepts s tree q) children (c .args .visitor .now) (c .visit .last .self) (names-of (c .args .path .now)) (names-of (c .put .last .self)) n (c .put .ensures .names)
+          shown-yes (λ s q. g .V·Visitor .next s tree q) (λ s q. g .V·Visitor .accepts s tree q) children (c .args .visitor .now) (c .visit .last .self) (names-of (c .args .path .now)) (names-of (c .put .last .self)) n (c .put .ensures .names)
           (c .visit .ensures .holds ∙ ap (λ q. g .V·Visitor .next (c .args .visitor .now) tree q) (c .names .ensures))
           (sym (c .if-not-visit .left) ∙ c .visit .ensures .answer ∙ ap (λ q. g .V·Visitor .accepts (c .args .visitor .now) tree q) (c .names .ensures)) h
-        ∙ branch-stops (λ s q. g .V·Visitor .next s tree q) (λ s q. g .V·Visitor .accepts s tree q) children n (names-of (c .put .last .self)) h (c .loop-i .i) (c .visit .last .self) (c .loop-i .visitor) (c .loop-i .inv .2 h le)
+          ∙ branch-stops (λ s q. g .V·Visitor .next s tree q) (λ s q. g .V·Visitor .accepts s tree q) children n (names-of (c .put .last .self)) h (c .loop-i .i) (c .visit .last .self) (c .loop-i .visitor) (c .loop-i .inv .2 h le)
           (c .unwrap-child .result) inside is (names-of (c .loop-i .path)) (names-of (c .show .last .path)) (c .loop-i .inv .0) (c .show .last .visitor) (c .show .result) (c .show .ensures .ran h (omega arith)) (c .if-not-show .taken));
       back = λ e. absurd (false≢true e);
       memory = search needs;
@@ -71,14 +71,15 @@ loop-i-again g t c =
     let law = g .T·Tree .lawful tree in
     let children = g .T·Tree .children tree in
     let missing = g .T·Tree .missing tree in
-    let count = counted law missing n (c .child-count .ensures) (c .unwrap-count .ensures) in
+    let count = counted law missing n (c .child-count .ensures .value) (c .unwrap-count .ensures) in
     let inside : c .loop-i .i < length (children n) = omega arith in
-    let is = child-is law missing n (c .loop-i .i) (c .child .ensures) (c .unwrap-child .ensures) in
-    let lower = child-lower law missing n (c .loop-i .i) (c .child .ensures) (c .unwrap-child .ensures) (c .pre .known) inside in
-    ( c .show .ensures .back (c .if-not-show .left) ∙ c .loop-i .inv .0,
+    let is = child-is law missing n (c .loop-i .i) (c .child .ensures .value) (c .unwrap-child .ensures) in
+    let lower = child-lower law missing n (c .loop-i .i) (c .child .ensures .value) (c .unwrap-child .ensures) (c .pre .known) inside in (
+      c .show .ensures .back (c .if-not-show .left) ∙ c .loop-i .inv .0,
       search needs,
       λ h le. branch-on (λ s q. g .V·Visitor .next s tree q) (λ s q. g .V·Visitor .accepts s tree q) children n (names-of (c .put .last .self)) h (c .loop-i .i) (c .visit .last .self) (c .loop-i .visitor) (c .loop-i .inv .2 h le)
-          (c .unwrap-child .result) inside is (names-of (c .loop-i .path)) (names-of (c .show .last .path)) (c .loop-i .inv .0) (c .show .last .visitor) (c .show .result) (c .show .ensures .ran h (omega arith)) (c .if-not-show .left) )
+          (c .unwrap-child .result) inside is (names-of (c .loop-i .path)) (names-of (c .show .last .path)) (c .loop-i .inv .0) (c .show .last .visitor) (c .show .result) (c .show .ensures .ran h (omega arith)) (c .if-not-show .left),
+    )
 
 pub returns : need.returns
 returns g t c =
@@ -87,13 +88,13 @@ returns g t c =
     let law = g .T·Tree .lawful tree in
     let children = g .T·Tree .children tree in
     let missing = g .T·Tree .missing tree in
-    let count = counted law missing n (c .child-count .ensures) (c .unwrap-count .ensures) in
+    let count = counted law missing n (c .child-count .ensures .value) (c .unwrap-count .ensures) in
     record {
       ran = by-fuel _ _ (law .low n (c .pre .known)) (λ h le.
-        shown-yes (λ s q. g .V·Visitor .next s tree q) (λ s q. g .V·Visitor .accepts s tree q) children (c .args .visitor .now) (c .visit .last .self) (names-of (c .args .path .now)) (names-of (c .put .last .self)) n (c .put .ensures .names)
+          shown-yes (λ s q. g .V·Visitor .next s tree q) (λ s q. g .V·Visitor .accepts s tree q) children (c .args .visitor .now) (c .visit .last .self) (names-of (c .args .path .now)) (names-of (c .put .last .self)) n (c .put .ensures .names)
           (c .visit .ensures .holds ∙ ap (λ q. g .V·Visitor .next (c .args .visitor .now) tree q) (c .names .ensures))
           (sym (c .if-not-visit .left) ∙ c .visit .ensures .answer ∙ ap (λ q. g .V·Visitor .accepts (c .args .visitor .now) tree q) (c .names .ensures)) h
-        ∙ branches-done (λ s q. g .V·Visitor .next s tree q) (λ s q. g .V·Visitor .accepts s tree q) children n (names-of (c .put .last .self)) h (c .loop-i .i) (c .visit .last .self) (c .loop-i .visitor) (c .loop-i .inv .2 h le) (omega arith));
+          ∙ branches-done (λ s q. g .V·Visitor .next s tree q) (λ s q. g .V·Visitor .accepts s tree q) children n (names-of (c .put .last .self)) h (c .loop-i .i) (c .visit .last .self) (c .loop-i .visitor) (c .loop-i .inv .2 h le) (omega arith));
       back = λ _. popped-back (names-of (c .args .path .now)) n (c .loop-i .path) (c .pop .last .self) (c .pop .result) (c .loop-i .inv .0 ∙ c .put .ensures .names) (c .pop .ensures .cases);
       memory = search needs;
     }

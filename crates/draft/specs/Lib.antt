@@ -1,0 +1,4 @@
+pub mod Details
+pub mod Drafts
+pub mod Fits
+pub mod Lists
