@@ -1,6 +1,7 @@
 //! Two visitors over an outline: one that records the lines shown, and one that looks for a text.
 ghost use Rattle.outline.specs.Visits.{ends-at, noted, room-for};
 ghost use denote.Ref.{name, now as held};
+ghost use lib.ListN.{take};
 ghost use mathlib.Core.Bool.{not};
 ghost use mathlib.Core.Path.{_≡_};
 use crate::entries::Entry;
@@ -30,6 +31,14 @@ impl<'a> Record<'a> {
         ensures { λ r. ⌜ (r .len ≡ 0) × (now (r .lines) ≡ now (lines .entry)) × (name (r .lines) ≡ name (lines .entry)) ⌝ }
     {
         Record { lines, len: 0 }
+    }
+
+    /// The lines recorded, the first first.
+    pub fn lines(&self) -> &[Shown]
+        ensures { λ r. ⌜ now r ≡ take (now (self .entry) .len) (now (now (self .entry) .lines)) ⌝ }
+    {
+        let len = self.len.min(self.lines.len());
+        &self.lines[0..len]
     }
 }
 

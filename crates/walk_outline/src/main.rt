@@ -9,7 +9,7 @@ use std::env;
 use std::error::AnyError;
 
 fn run(rt: &LibcRuntime) -> Result<(), AnyError> {
-    let outline = reading::outline(rt)?;
+    let outline = reading::read_outline(rt)?;
     let mut args = env::args(rt)?;
     let _ = args.next();
     match args.next() {
