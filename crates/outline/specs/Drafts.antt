@@ -17,8 +17,9 @@ use Rattle.std.specs.declared.string.String.{String}
 use Rattle.std.specs.declared.vec.Vec.{Vec}
 use Rattle.outline.specs.Reading.{reading, text-of}
 use Rattle.outline.specs.declared.drafts.Draft.{Draft}
+use Rattle.outline.specs.declared.faults.Cause.{Cause}
+use Rattle.outline.specs.declared.faults.Cause.the-variants.{Full, Memory}
 use Rattle.outline.specs.declared.faults.OutlineFault.{OutlineFault}
-use Rattle.outline.specs.declared.faults.OutlineFault.the-variants.{Full, Memory}
 use Rattle.outline.specs.declared.outlines.Outline.{Outline}
 
 -- the texts of some entries, by their bytes
@@ -34,27 +35,29 @@ abbrev pub number-after : ℕ → ℕ
 number-after lines = min (lines + 1) (2 ^ 64 - 1)
 
 -- an entry more than 4,096 is refused
-abbrev pub bounded : ℕ → ℕ → Result (Option ℕ) OutlineFault → Result (Option ℕ) OutlineFault
-bounded count number (Ok None) = Ok None
-bounded count number (Ok (Some d)) = cond (ltb count 4096) (Ok (Some d)) (Err (Full number))
-bounded count number (Err f) = Err f
+abbrev pub bounded : ℕ → Result (Option ℕ) Cause → Result (Option ℕ) Cause
+bounded count (Ok None) = Ok None
+bounded count (Ok (Some d)) = cond (ltb count 4096) (Ok (Some d)) (Err Full)
+bounded count (Err c) = Err c
 
 -- how deep the entry of the next line is, or none for a line without text, or why the line is refused
-abbrev pub judged : Draft → List ℕ → Result (Option ℕ) OutlineFault
-judged draft line =
-    let number = number-after (draft .lines) in
-    bounded (vec-len (draft .depths)) number (reading line number (most-after (vec-items (draft .depths))))
+abbrev pub judged : Draft → List ℕ → Result (Option ℕ) Cause
+judged draft line = bounded (vec-len (draft .depths)) (reading line (most-after (vec-items (draft .depths))))
 
--- what the line then adds
-abbrev pub grown : Result (Option ℕ) OutlineFault → Draft → List ℕ → Draft → Type 0
+-- a draft with one entry more
+abbrev pub Longer : Draft → ℕ → List ℕ → Draft → Type 0
+Longer before d text after = (vec-items (after .depths) ≡ vec-items (before .depths) ++ d ∷ []) × (texts-of (after .texts) ≡ texts-of (before .texts) ++ text ∷ [])
+
+-- what a line adds, as it is judged
+abbrev pub grown : Result (Option ℕ) Cause → Draft → List ℕ → Draft → Type 0
 grown (Ok None) before line after = (vec-items (after .depths) ≡ vec-items (before .depths)) × (texts-of (after .texts) ≡ texts-of (before .texts))
-grown (Ok (Some d)) before line after = (vec-items (after .depths) ≡ vec-items (before .depths) ++ d ∷ []) × (texts-of (after .texts) ≡ texts-of (before .texts) ++ text-of line ∷ [])
-grown (Err f) before line after = ⊥
+grown (Ok (Some d)) before line after = Longer before d (text-of line) after
+grown (Err c) before line after = ⊥
 
--- A line was added, and counted; or it was refused, for a fault of its own or for want of memory.
+-- A line was added, and counted; or it was refused by its number, for a cause of its own or for want of memory.
 abbrev pub Added : Draft → List ℕ → Result Draft OutlineFault → Type 0
 Added before line (Ok after) = grown (judged before line) before line after × (after .lines ≡ number-after (before .lines))
-Added before line (Err f) = (judged before line ≡ Err f) ⊎ (f ≡ Memory)
+Added before line (Err f) = ((judged before line ≡ Err (f .cause)) ⊎ (f .cause ≡ Memory)) × (f .line ≡ number-after (before .lines))
 
 -- an outline has the entries of a draft
 abbrev pub Finished : Draft → Outline → Type 0

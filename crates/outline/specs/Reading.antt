@@ -9,8 +9,8 @@ use Rattle.std.specs.declared.option.Option.{Option}
 use Rattle.std.specs.declared.option.Option.the-variants.{None, Some}
 use Rattle.std.specs.declared.result.Result.{Result}
 use Rattle.std.specs.declared.result.Result.the-variants.{Ok, Err}
-use Rattle.outline.specs.declared.faults.OutlineFault.{OutlineFault}
-use Rattle.outline.specs.declared.faults.OutlineFault.the-variants.{Tab, Odd, Skip, Deep}
+use Rattle.outline.specs.declared.faults.Cause.{Cause}
+use Rattle.outline.specs.declared.faults.Cause.the-variants.{Tab, Odd, Skip, Deep}
 
 -- a space; a space or a carriage return
 abbrev pub is-space : ℕ → Bool
@@ -31,13 +31,13 @@ text-end line = length line - ending is-blank line
 abbrev pub text-of : List ℕ → List ℕ
 text-of line = take (text-end line - spaces line) (drop (spaces line) line)
 
--- How deep the entry of a line is, by the number of the line and how deep it may be at most.
+-- How deep the entry of a line is, where it may be so deep at most.
 -- A line without text has none. A tab in the indent, an odd number of spaces, an entry that is too deep here
 -- and one below level 64 are refused, in this order.
-abbrev pub reading : List ℕ → ℕ → ℕ → Result (Option ℕ) OutlineFault
-reading line number most =
+abbrev pub reading : List ℕ → ℕ → Result (Option ℕ) Cause
+reading line most =
     cond (eqb (length (text-of line)) 0) (Ok None)
-    (cond (eqb (getD (text-of line) 0 0) 9) (Err (Tab number))
-    (cond (eqb (spaces line % 2) 1) (Err (Odd number (spaces line)))
-    (cond (ltb most (spaces line / 2)) (Err (Skip number (most * 2) (spaces line)))
-    (cond (ltb (spaces line / 2) 64) (Ok (Some (spaces line / 2))) (Err (Deep number))))))
+    (cond (eqb (getD (text-of line) 0 0) 9) (Err Tab)
+    (cond (eqb (spaces line % 2) 1) (Err (Odd (spaces line)))
+    (cond (ltb most (spaces line / 2)) (Err (Skip (most * 2) (spaces line)))
+    (cond (ltb (spaces line / 2) 64) (Ok (Some (spaces line / 2))) (Err Deep)))))

@@ -1,19 +1,15 @@
 //! Adding lines to a draft, and making the outline of it.
-ghost use Prim.Native.Nat.{ℕ, _+_, _<_, _≤_};
-ghost use Rattle.outline.specs.Drafts.{Added, Finished, judged, most-after, texts-of};
+ghost use Prim.Native.Nat.{_<_, _≤_};
+ghost use Rattle.outline.specs.Drafts.{Added, Finished, Longer, judged, most-after};
 ghost use Rattle.std.specs.Of.Vec.{vec-items, vec-len};
-ghost use Rattle.outline.specs.declared.faults.OutlineFault.the-variants.{Memory};
-ghost use Rattle.std.specs.Results.{Cases};
 ghost use Rattle.std.specs.Vec.{made};
-ghost use lib.ListN.{length};
-ghost use mathlib.Core.List.{[], _∷_, _++_};
+ghost use mathlib.Core.List.{[]};
 ghost use mathlib.Core.Path.{_≡_};
 use crate::building::Runs;
 use crate::building::arrange;
 use crate::drafts::Draft;
+use crate::faults::Cause;
 use crate::faults::OutlineFault;
-use crate::faults::OutlineFaultFromAlloc;
-use crate::faults::OutlineFaultFromRefused;
 use crate::lines::depth;
 use crate::lines::text;
 use crate::outlines::Outline;
@@ -40,18 +36,13 @@ impl Draft {
     }
 
     // How deep the entry of the next line is, or why the line is refused.
-    fn judge(&self, line: &str) -> Result<Option<usize>, OutlineFault>
+    fn judge(&self, line: &str) -> Result<Option<usize>, Cause>
         ensures { λ r. ⌜ r ≡ judged (now (self .entry)) (now (line .entry)) ⌝ }
     {
-        let number = self.lines.saturating_add(1);
-        let Some(depth) = depth(line, number, self.most())? else {
+        let Some(depth) = depth(line, self.most())? else {
             return Ok(None);
         };
-        if self.depths.len() < ENTRIES {
-            Ok(Some(depth))
-        } else {
-            Err(OutlineFault::Full { line: number })
-        }
+        if self.depths.len() < ENTRIES { Ok(Some(depth)) } else { Err(Cause::Full) }
     }
 
     /// Adds the next line. A line without text is counted and adds no entry.
@@ -61,11 +52,18 @@ impl Draft {
     pub fn add(mut self, line: &str) -> Result<Draft, OutlineFault>
         ensures { λ r. ⌜ Added self (now (line .entry)) r ⌝ }
     {
-        let found = self.judge(line)?;
-        self.lines = self.lines.saturating_add(1);
-        match found {
-            None => Ok(self),
-            Some(depth) => self.push(depth, text(line)),
+        let number = self.lines.saturating_add(1);
+        let found = match self.judge(line) {
+            Ok(found) => found,
+            Err(cause) => return Err(OutlineFault { line: number, cause }),
+        };
+        self.lines = number;
+        let Some(depth) = found else {
+            return Ok(self);
+        };
+        match self.push(depth, text(line)) {
+            Ok(draft) => Ok(draft),
+            Err(_) => Err(OutlineFault { line: number, cause: Cause::Memory }),
         }
     }
 
@@ -79,11 +77,11 @@ impl Draft {
     }
 
     // One entry more, where it is known to nest.
-    fn push(self, depth: usize, text: &str) -> Result<Draft, OutlineFault>
+    fn push(self, depth: usize, text: &str) -> Result<Draft, AllocError>
         requires room { ⌜ vec-len (self .depths) < 4096 ⌝ }
         requires within { ⌜ depth < 64 ⌝ }
         requires nests { ⌜ depth ≤ most-after (vec-items (self .depths)) ⌝ }
-        ensures { λ r. ⌜ Cases r (λ d. (vec-items (d .depths) ≡ vec-items (self .depths) ++ depth ∷ []) × (texts-of (d .texts) ≡ texts-of (self .texts) ++ now (text .entry) ∷ []) × (d .lines ≡ self .lines)) (λ f. f ≡ Memory) ⌝ }
+        ensures { λ r. ⌜ made r (λ d. Longer self depth (now (text .entry)) d × (d .lines ≡ self .lines)) ⌝ }
     {
         let Draft { heap, mut depths, mut texts, lines } = self;
         let text = String::from_str(heap, text)?;

@@ -30,7 +30,7 @@ pub impl Fault for NoEntry as NoEntryFault {
 }
 
 /// Where an entry stands in the tree.
-#[derive(Clone, Copy, PartialEq, Eq, Debug)]
+#[derive(Clone, Copy)]
 pub struct Place {
     /// Where its run of children begins in the list of children.
     pub(crate) first: usize,

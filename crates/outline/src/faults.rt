@@ -1,55 +1,50 @@
 //! Why a line of an outline is refused.
-ghost use mathlib.Core.Path.{_≡_};
-ghost use Rattle.outline.specs.declared.faults.OutlineFault.the-variants.{Memory};
-use std::alloc::AllocError;
-use std::alloc::Refused;
 use std::error::Error;
 use std::fmt;
 
-/// A line that is refused, by its number from 1 on, with what was found there.
+/// What a line is refused for.
 #[derive(Clone, Copy, PartialEq, Eq, Debug)]
-pub enum OutlineFault {
+pub enum Cause {
     /// A tab stands in the indent.
-    Tab { line: usize },
+    Tab,
     /// The indent is an odd number of spaces.
-    Odd { line: usize, spaces: usize },
+    Odd { spaces: usize },
     /// The indent is over that of one level below the entry before.
-    Skip { line: usize, most: usize, spaces: usize },
+    Skip { most: usize, spaces: usize },
     /// The entry would be below 64 levels.
-    Deep { line: usize },
+    Deep,
     /// The entry would be one over 4,096.
-    Full { line: usize },
+    Full,
     /// There is no memory for the entry.
     Memory,
 }
 
-pub impl fmt::Display for OutlineFault as OutlineFaultDisplay {
+pub impl fmt::Display for Cause as CauseDisplay {
     fn fmt<W: fmt::Write>(&self, f: &mut fmt::Formatter<W>) -> fmt::Result {
         match *self {
-            OutlineFault::Tab { line } => write!(f, "line {line}: expected an indent of spaces, found a tab"),
-            OutlineFault::Odd { line, spaces } => write!(f, "line {line}: expected an indent of two spaces a level, found {spaces}"),
-            OutlineFault::Skip { line, most, spaces } => write!(f, "line {line}: expected an indent of at most {most} spaces here, found {spaces}"),
-            OutlineFault::Deep { line } => write!(f, "line {line}: expected at most 64 levels, found one more"),
-            OutlineFault::Full { line } => write!(f, "line {line}: expected at most 4096 entries, found one more"),
-            OutlineFault::Memory => write!(f, "no memory is left for the outline"),
+            Cause::Tab => f.write_str("expected an indent of spaces, found a tab"),
+            Cause::Odd { spaces } => write!(f, "expected an indent of two spaces a level, found {spaces}"),
+            Cause::Skip { most, spaces } => write!(f, "expected an indent of at most {most} spaces here, found {spaces}"),
+            Cause::Deep => f.write_str("expected at most 64 levels, found one more"),
+            Cause::Full => f.write_str("expected at most 4096 entries, found one more"),
+            Cause::Memory => f.write_str("expected memory for the entry, found none"),
         }
     }
 }
 
+/// A line that is refused, by its number from 1 on.
+#[derive(Clone, Copy, PartialEq, Eq, Debug)]
+pub struct OutlineFault {
+    pub line: usize,
+    pub cause: Cause,
+}
+
+pub impl fmt::Display for OutlineFault as OutlineFaultDisplay {
+    fn fmt<W: fmt::Write>(&self, f: &mut fmt::Formatter<W>) -> fmt::Result {
+        let line = self.line;
+        let cause = self.cause;
+        write!(f, "line {line}: {cause}")
+    }
+}
+
 pub impl Error for OutlineFault as OutlineFaultError {}
-
-pub impl From<AllocError> for OutlineFault as OutlineFaultFromAlloc {
-    ghost converts = { λ _ r. r ≡ Memory };
-
-    fn from(_e: AllocError) -> OutlineFault {
-        OutlineFault::Memory
-    }
-}
-
-pub impl<T: Drop> From<Refused<T>> for OutlineFault as OutlineFaultFromRefused {
-    ghost converts = { λ _ r. r ≡ Memory };
-
-    fn from(_e: Refused<T>) -> OutlineFault {
-        OutlineFault::Memory
-    }
-}

@@ -3,7 +3,7 @@ ghost use Prim.Native.Nat.{ℕ, _<_, _≤_};
 ghost use Rattle.outline.specs.Reading.{is-blank, reading, spaces, text-end, text-of};
 ghost use lib.ListN.{getD, length};
 ghost use mathlib.Core.Path.{_≡_};
-use crate::faults::OutlineFault;
+use crate::faults::Cause;
 
 /// How many levels an outline has at most.
 pub const LEVELS: usize = 64;
@@ -53,8 +53,8 @@ pub fn text(line: &str) -> &str
 
 /// How deep the entry of a line is, or none for a line without text. It is refused for a tab or an odd number
 /// of spaces in its indent, then where it is over `most` levels deep, then where it is below level 64.
-pub fn depth(line: &str, number: usize, most: usize) -> Result<Option<usize>, OutlineFault>
-    ensures { λ r. ⌜ r ≡ reading (now (line .entry)) number most ⌝ }
+pub fn depth(line: &str, most: usize) -> Result<Option<usize>, Cause>
+    ensures { λ r. ⌜ r ≡ reading (now (line .entry)) most ⌝ }
 {
     let text = text(line);
     if text.is_empty() {
@@ -62,13 +62,13 @@ pub fn depth(line: &str, number: usize, most: usize) -> Result<Option<usize>, Ou
     }
     let spaces = indent(line.as_bytes());
     if text.as_bytes()[0] == b'\t' {
-        Err(OutlineFault::Tab { line: number })
+        Err(Cause::Tab)
     } else if spaces % 2 == 1 {
-        Err(OutlineFault::Odd { line: number, spaces })
+        Err(Cause::Odd { spaces })
     } else if spaces / 2 > most {
-        Err(OutlineFault::Skip { line: number, most: most * 2, spaces })
+        Err(Cause::Skip { most: most * 2, spaces })
     } else if spaces / 2 >= LEVELS {
-        Err(OutlineFault::Deep { line: number })
+        Err(Cause::Deep)
     } else {
         Ok(Some(spaces / 2))
     }
