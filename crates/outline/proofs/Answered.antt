@@ -36,12 +36,16 @@ module _ (o : Outline) (e : Entry) {p : Place} (answer : Ok p ≡ told (known-in
   known : known-in o e ≡ true
   known = told-ok _ _ _ answer .0
 
+  -- the run that the place tells of holds the children
+  run-is : run-of (vec-items (o .children)) p ≡ children-in o e
+  run-is = ap (run-of (vec-items (o .children))) (told-ok _ _ _ answer .1) ∙ o .runs (e .number) (within o e known)
+
   counted : p .count ≡ length (children-in o e)
   counted =
-      let is = told-ok _ _ _ answer .1 in
-      let fit = o .fits (e .number) (within o e known) in
-      let l = length-drop (place-of o e .first) (vec-items (o .children)) in
-      ap (λ (q : Place). q .count) is ∙ sym (length-take-le (place-of o e .count) (drop (place-of o e .first) (vec-items (o .children))) (omega arith))
+      let fits : p .first + p .count ≤ length (vec-items (o .children)) =
+          subst (λ (q : Place). q .first + q .count ≤ length (vec-items (o .children))) (sym (told-ok _ _ _ answer .1)) (o .fits (e .number) (within o e known)) in
+      let l = length-drop (p .first) (vec-items (o .children)) in
+      sym (length-take-le (p .count) (drop (p .first) (vec-items (o .children))) (omega arith)) ∙ ap length run-is
 
   pub count-told : Ok (p .count) ≡ told (known-in o e) (length (children-in o e)) (missing-in o e)
   count-told = ap Ok counted ∙ told-yes _ (missing-in o e) known
@@ -50,15 +54,12 @@ module _ (o : Outline) (e : Entry) {p : Place} (answer : Ok p ≡ told (known-in
     pub child-told : (x : Entry) → i < p .count → x ≡ getD (vec-items (o .children)) (p .first + i) x
       → Ok x ≡ told (known-in o e && ltb i (length (children-in o e))) (child-of (children-in o) e i) (missing-in o e)
     child-told x l read =
-        let n = counted in
-        let q = place-of o e in
         let xs = vec-items (o .children) in
-        let read′ : x ≡ getD xs (q .first + i) x = subst (λ (r : Place). x ≡ getD xs (r .first + i) x) (told-ok _ _ _ answer .1) read in
-        let short : i < q .count = subst (λ (r : Place). i < r .count) (told-ok _ _ _ answer .1) l in
-        let in-run : x ≡ getD (run-of xs q) i x = read′ ∙ sym (getD-take (q .count) (drop (q .first) xs) i x short ∙ getD-drop (q .first) xs i x) in
-        let i-within : i < length (run-of xs q) = omega arith in
-        let is : x ≡ child-of (children-in o) e i = in-run ∙ getD-default (run-of xs q) i x e i-within in
-        ap Ok is ∙ told-yes _ (missing-in o e) (and-from _ _ known (lt-ltb i (length (children-in o e)) i-within))
+        let n = counted in
+        let in-run : x ≡ getD (run-of xs p) i x = read ∙ sym (getD-take (p .count) (drop (p .first) xs) i x l ∙ getD-drop (p .first) xs i x) in
+        let short : i < length (children-in o e) = omega arith in
+        let is : x ≡ child-of (children-in o) e i = in-run ∙ ap (λ es. getD es i x) run-is ∙ getD-default (children-in o e) i x e short in
+        ap Ok is ∙ told-yes _ (missing-in o e) (and-from _ _ known (lt-ltb i (length (children-in o e)) short))
 
     pub past-told : p .count ≤ i → Err (missing-in o e) ≡ told (known-in o e && ltb i (length (children-in o e))) (child-of (children-in o) e i) (missing-in o e)
     past-told l = let n = counted in told-no _ (missing-in o e) (and-right _ _ (le-ltb i (length (children-in o e)) (omega arith)))

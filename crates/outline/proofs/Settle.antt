@@ -11,7 +11,7 @@ use Rattle.std.specs.Changed.{refilled}
 use Rattle.std.specs.declared.alloc.Global.{Global}
 use Rattle.std.specs.declared.vec.Vec.{Vec}
 use Rattle.outline.specs.Building.{Arranged, Gathering, Settled, SettledFrom}
-use Rattle.outline.specs.Nesting.{at, highest, kids, run-of}
+use Rattle.outline.specs.Nesting.{at, children-of, highest, roots-of, run-of}
 use Rattle.outline.specs.declared.building.Gathered.{Gathered}
 use Rattle.outline.specs.declared.entries.Entry.{Entry}
 use Rattle.outline.specs.declared.entries.Place.{Place}
@@ -30,15 +30,14 @@ grows depths places children more j q s =
     record {
       fits = omega (arith, length-append children more, s .fits);
       run = grown ∙ s .run;
-      height = s .height ∙ ap (λ es. 1 + highest places es) (sym grown);
-      shallow = s .shallow; after = s .after; past = s .past; below = s .below; stops = s .stops
+      height = s .height; shallow = s .shallow; after = s .after; past = s .past; below = s .below; stops = s .stops
     }
 
 -- also when the place of one before it is written
 stays : (depths : List ℕ) (places : List Place) (children : List Entry) (i j : ℕ) (p q : Place) → i < j → Settled depths places children j q → Settled depths (set places i p) children j q
 stays depths places children i j p q l s =
-    let same : highest (set places i p) (run-of children q) ≡ highest places (run-of children q) =
-        ap (highest (set places i p)) (s .run) ∙ highest-set places i p (getD depths j 0 + 1) (j + 1) (drop (j + 1) depths) (omega arith) ∙ ap (highest places) (sym (s .run)) in
+    let same : highest (set places i p) (children-of depths j) ≡ highest places (children-of depths j) =
+        highest-set places i p (getD depths j 0 + 1) (j + 1) (drop (j + 1) depths) (omega arith) in
     record {
       fits = s .fits; run = s .run;
       height = omega (arith, s .height, same);
@@ -51,16 +50,16 @@ grew {before = before} gathered = omega (arith, ap length (gathered .appended) �
 module _ (depths : List ℕ) (places : List Place) (before after : List Entry) (i : ℕ) (g : Gathered) (gathered : Gathering depths places (i + 1) (getD depths i 0 + 1) before g after)
   (p : Place) (first : p .first ≡ length before) (count : p .first + p .count ≡ length after) (height : p .height ≡ g .height + 1) (past : p .past ≡ g .past) where
 
-  run : run-of after p ≡ kids (getD depths i 0 + 1) (i + 1) (drop (i + 1) depths)
+  run : run-of after p ≡ children-of depths i
   run =
-      let more = kids (getD depths i 0 + 1) (i + 1) (drop (i + 1) depths) in
+      let more = children-of depths i in
       let l = ap length (gathered .appended) ∙ length-append before more in
       ap (λ es. take (p .count) (drop (p .first) es)) (gathered .appended) ∙ ap (take (p .count)) (drop-at before more (p .first) (sym first)) ∙ take-all (p .count) more (omega arith)
 
   new : Settled depths (set places i p) after i p
   new =
-      let tall : highest (set places i p) (run-of after p) ≡ g .height =
-          ap (highest (set places i p)) run ∙ highest-set places i p (getD depths i 0 + 1) (i + 1) (drop (i + 1) depths) (omega arith) ∙ sym (gathered .height) in
+      let tall : highest (set places i p) (children-of depths i) ≡ g .height =
+          highest-set places i p (getD depths i 0 + 1) (i + 1) (drop (i + 1) depths) (omega arith) ∙ sym (gathered .height) in
       record {
         fits = omega (arith, count);
         run = run;
@@ -91,7 +90,7 @@ module _ (depths : List ℕ) (places : List Place) (before after : List Entry) (
 pub arranged : {depths : List ℕ} {places : List Place} {before after : List Entry} {g : Gathered} {top : ℕ} → length places ≡ length depths → SettledFrom depths places before 0
   → Gathering depths places 0 0 before g after → top ≡ length before → Arranged depths places after top
 arranged {depths = depths} {places = places} {before = before} {after = after} {top = top} long settled gathered e =
-    let more = kids 0 0 depths in
+    let more = roots-of depths in
     let each : (i : ℕ) → i < length places → Settled depths places after i (at places i) =
         λ i l. let P : List Entry → Type 0 = λ es. Settled depths places es i (at places i) in
           subst P (sym (gathered .appended)) (grows depths places before more i (at places i) (settled i (omega arith) (omega arith))) in

@@ -3,7 +3,7 @@ use mathlib.Core.List.{List, _++_}
 use mathlib.Core.Path.{_≡_}
 use Prim.Native.Nat.{ℕ, _+_, _<_, _≤_}
 use lib.ListN.{length, getD, drop}
-use Rattle.outline.specs.Nesting.{Fit, Measured, Run, Shallow, at, highest, kids, run-of}
+use Rattle.outline.specs.Nesting.{Fit, Measured, Run, Shallow, at, children-of, highest, kids, roots-of, run-of}
 use Rattle.outline.specs.declared.building.Gathered.{Gathered}
 use Rattle.outline.specs.declared.entries.Entry.{Entry}
 use Rattle.outline.specs.declared.entries.Place.{Place}
@@ -12,9 +12,9 @@ use Rattle.outline.specs.declared.entries.Place.{Place}
 pub record Settled (depths : List ℕ) (places : List Place) (children : List Entry) (j : ℕ) (p : Place) : Type 0 where
   -- its run lies within the list of children and holds its children,
   pub fits : p .first + p .count ≤ length children
-  pub run : run-of children p ≡ kids (getD depths j 0 + 1) (j + 1) (drop (j + 1) depths)
+  pub run : run-of children p ≡ children-of depths j
   -- its height is one more than that of its highest child,
-  pub height : p .height ≡ 1 + highest places (run-of children p)
+  pub height : p .height ≡ 1 + highest places (children-of depths j)
   pub shallow : getD depths j 0 + p .height ≤ 64
   -- and from it to the number past its last descendant all are deeper, and there one is not
   pub after : j < p .past
@@ -41,7 +41,7 @@ pub record Arranged (depths : List ℕ) (places : List Place) (children : List E
   pub long : length places ≡ length depths
   pub fits : Fit places children
   pub runs : Run depths places children
-  pub measured : Measured places children
+  pub measured : Measured depths places
   pub shallow : Shallow depths places
   pub topped : top ≤ length children
-  pub rooted : drop top children ≡ kids 0 0 depths
+  pub rooted : drop top children ≡ roots-of depths

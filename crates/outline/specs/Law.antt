@@ -1,7 +1,7 @@
 -- The law of a tree holds of every outline, by what each of its values carries. Assumes nothing.
 use mathlib.Core.Bool.{cond, true}
 use mathlib.Core.List.{List, [], _∷_}
-use mathlib.Core.Path.{_≡_, sym, subst, _∙_}
+use mathlib.Core.Path.{_≡_}
 use native.Mathlib.Nat.{le-max-left, le-max-right}
 use native.Mathlib.Omega.{arith}
 use Prim.Native.Nat.{ℕ, zero, suc, _+_, _-_, _<_, _≤_}
@@ -11,7 +11,7 @@ use Rattle.std.proofs.shelf.Tests.{cond-both, ltb-true, lt-ltb}
 use Rattle.std.specs.Of.Vec.{vec-items, vec-len}
 use Rattle.tree.specs.Lines.{TreeLaw, child-of}
 use Rattle.outline.specs.Nesting.{at, highest, kids}
-use Rattle.outline.specs.Trees.{known-in, height-in, children-in, place-of}
+use Rattle.outline.specs.Trees.{known-in, height-in, children-in}
 use Rattle.outline.specs.declared.entries.Entry.{Entry}
 use Rattle.outline.specs.declared.entries.Place.{Place}
 use Rattle.outline.specs.declared.outlines.Outline.{Outline}
@@ -41,10 +41,8 @@ within o e k = omega (arith, ltb-true (e .number) (vec-len (o .places)) k, o .pl
 child-known : (o : Outline) (e : Entry) (i : ℕ) → known-in o e ≡ true → i < length (children-in o e) → child-of (children-in o) e i .number < vec-len (o .places)
 child-known o e i k h =
     let ds : List ℕ = vec-items (o .depths) in
-    let P : List Entry → Type 0 = λ es. i < length es → getD es i e .number < vec-len (o .places) in
     let long = length-drop (e .number + 1) ds in
-    subst P (sym (o .runs (e .number) (within o e k)))
-    (λ l. omega (arith, kids-within (getD ds (e .number) 0 + 1) (e .number + 1) (drop (e .number + 1) ds) i e l, within o e k, o .places .ok .0, o .depths .ok .0, o .placed, long)) h
+    omega (arith, kids-within (getD ds (e .number) 0 + 1) (e .number + 1) (drop (e .number + 1) ds) i e h, within o e k, o .places .ok .0, o .depths .ok .0, o .placed, long)
 
 pub outline-law : (o : Outline) → TreeLaw (known-in o) (height-in o) (children-in o)
 outline-law o = record {

@@ -6,7 +6,7 @@ use lib.Dec.{ltb}
 use lib.ListN.{getD}
 use Rattle.std.specs.Of.Vec.{vec-items, vec-len}
 use Rattle.outline.specs.Drafts.{texts-of}
-use Rattle.outline.specs.Nesting.{at, run-of}
+use Rattle.outline.specs.Nesting.{at, children-of}
 use Rattle.outline.specs.declared.entries.Entry.{Entry}
 use Rattle.outline.specs.declared.entries.NoEntry.{NoEntry}
 use Rattle.outline.specs.declared.entries.Place.{Place}
@@ -24,11 +24,13 @@ text-in o e = getD (texts-of (o .texts)) (e .number) []
 abbrev pub known-in : Outline → Entry → Bool
 known-in o e = ltb (e .number) (vec-len (o .places))
 
+-- its height and its children
 abbrev pub height-in : Outline → Entry → ℕ
 height-in o e = place-of o e .height
 
 abbrev pub children-in : Outline → Entry → List Entry
-children-in o e = run-of (vec-items (o .children)) (place-of o e)
+children-in o e = children-of (vec-items (o .depths)) (e .number)
 
+-- the fault at an entry that is not known
 abbrev pub missing-in : Outline → Entry → NoEntry
 missing-in o e = record { entry = e }

@@ -1,6 +1,6 @@
 //! The outline: its entries by number, and for each the run of its children.
 ghost use Prim.Native.Nat.{_≤_};
-ghost use Rattle.outline.specs.Nesting.{Fit, Measured, Outermost, Run, Shallow, Stepwise, kids};
+ghost use Rattle.outline.specs.Nesting.{Fit, Measured, Outermost, Run, Shallow, Stepwise, roots-of};
 ghost use Rattle.std.specs.Of.Vec.{vec-items, vec-len};
 ghost use lib.ListN.{drop};
 ghost use mathlib.Core.Path.{_≡_};
@@ -24,8 +24,8 @@ pub struct Outline {
     ghost stepwise: { Stepwise (vec-items depths) },
     ghost fits: { Fit (vec-items places) (vec-items children) },
     ghost runs: { Run (vec-items depths) (vec-items places) (vec-items children) },
-    ghost measured: { Measured (vec-items places) (vec-items children) },
+    ghost measured: { Measured (vec-items depths) (vec-items places) },
     ghost shallow: { Shallow (vec-items depths) (vec-items places) },
     ghost topped: { top ≤ vec-len children },
-    ghost rooted: { drop top (vec-items children) ≡ kids 0 0 (vec-items depths) },
+    ghost rooted: { drop top (vec-items children) ≡ roots-of (vec-items depths) },
 }

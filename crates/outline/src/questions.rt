@@ -1,6 +1,6 @@
 //! What an outline answers: its entries and their texts, and the four questions of a tree.
 ghost use Rattle.outline.specs.Law.{outline-law};
-ghost use Rattle.outline.specs.Nesting.{kids};
+ghost use Rattle.outline.specs.Nesting.{roots-of};
 ghost use Rattle.outline.specs.Trees.{children-in, height-in, known-in, missing-in, place-of, text-in};
 ghost use Rattle.std.specs.Of.Vec.{vec-items, vec-len};
 ghost use Rattle.std.specs.Results.{Cases};
@@ -24,7 +24,7 @@ impl Outline {
 
     /// The entries of the outermost level, in the order of their lines.
     pub fn roots(&self) -> &[Entry]
-        ensures { λ r. ⌜ now r ≡ kids 0 0 (vec-items (now (self .entry) .depths)) ⌝ }
+        ensures { λ r. ⌜ now r ≡ roots-of (vec-items (now (self .entry) .depths)) ⌝ }
     {
         let top = self.top;
         &self.children[top..]
