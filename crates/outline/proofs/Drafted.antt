@@ -101,6 +101,12 @@ nests-more draft k depths e w n =
     let ds = vec-items (draft .depths) in
     subst Nests (sym e) (record { outermost = outermost-more ds k (draft .outermost) n; stepwise = stepwise-more ds k (draft .stepwise) n; within = within-more ds k (draft .within) w })
 
+pub few-more : {n m : ℕ} → m ≡ n + 1 → n < 4096 → m ≤ 4096
+few-more e l = omega arith
+
+pub paired-more : {n m n′ m′ : ℕ} → n ≡ m → n′ ≡ n + 1 → m′ ≡ m + 1 → n′ ≡ m′
+paired-more e f g = omega arith
+
 -- the texts with one more
 pub texts-more : (before after : Vec (String Global) Global) (t : String Global) (bytes : List ℕ) → vec-items after ≡ vec-items before ++ t ∷ [] → string-bytes t ≡ bytes → texts-of after ≡ texts-of before ++ bytes ∷ []
 texts-more before after t bytes e f = ap (map string-bytes) e ∙ map-push string-bytes (vec-items before) t ∙ ap (λ bs. texts-of before ++ bs ∷ []) f

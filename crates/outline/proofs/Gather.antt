@@ -2,13 +2,13 @@
 use mathlib.Core.List.{List, [], _∷_, _++_}
 use mathlib.Core.Logic.{_⊎_, ⊎-elim}
 use mathlib.Core.Path.{_≡_, refl, sym, ap, subst, _∙_}
-use native.Mathlib.Nat.{zero-max, max-zero, max-le}
+use native.Mathlib.Nat.{le-refl, zero-max, max-zero, max-le}
 use native.Mathlib.Omega.{arith}
 use Prim.Native.Nat.{ℕ, max, _+_, _-_, _<_, _≤_}
 use lib.ListN.{length, getD, drop}
 use Rattle.std.proofs.shelf.Lists.{append-assoc, append-nil}
 use Rattle.std.proofs.shelf.Tests.{cases-lt}
-use Rattle.outline.specs.Building.{Gathering, Settled, SettledFrom}
+use Rattle.outline.specs.Building.{Gathering, Ready, Settled}
 use Rattle.outline.specs.Nesting.{at, highest}
 use Rattle.outline.specs.declared.building.Gathered.{Gathered}
 use Rattle.outline.specs.declared.entries.Entry.{Entry}
@@ -17,6 +17,10 @@ use Rattle.outline.proofs.Kids.{from-on, kids-here, kids-stop, kids-end, kids-
 
 max-assoc : (a b c : ℕ) → max (max a b) c ≡ max a (max b c)
 max-assoc a b c = omega arith
+
+-- past a settled entry less is left
+pub falls-short : {depths : List ℕ} {places : List Place} {children : List Entry} {j : ℕ} {p : Place} → Settled depths places children j p → length depths - p .past < length depths - j
+falls-short s = omega (arith, s .after, s .past)
 
 -- What is gathered and what is still to come make up what is asked for.
 pub record Going (depths : List ℕ) (places : List Place) (from depth : ℕ) (before : List Entry) (i height : ℕ) (held : List Entry) : Type 0 where
@@ -29,8 +33,8 @@ pub record Going (depths : List ℕ) (places : List Place) (from depth : ℕ) (b
   pub next : getD depths i 0 ≤ depth
 
 module _ (depths : List ℕ) (places : List Place) (from depth : ℕ) (before : List Entry) where
-  pub started : from ≤ length depths → depth ≤ 64 → getD depths from 0 ≤ depth → Going depths places from depth before from 0 before
-  started w s f = record { low = omega arith; high = w; appended = refl; highest-is = zero-max _; shallow = omega arith; deep = λ k a b. absurd (omega arith); next = f }
+  pub started : {children : List Entry} → Ready depths places children from depth → Going depths places from depth before from 0 before
+  started r = record { low = le-refl from; high = r .within; appended = refl; highest-is = zero-max _; shallow = omega (arith, r .shallow); deep = λ k a b. absurd (omega arith); next = r .next }
 
   module _ (i height : ℕ) (held : List Entry) (going : Going depths places from depth before i height held) where
     turned : i < length depths → depth ≤ getD depths i 0 → {kept : List Entry} → Settled depths places kept i (at places i)

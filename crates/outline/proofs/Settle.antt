@@ -10,8 +10,8 @@ use Rattle.std.proofs.shelf.Tests.{cases-lt}
 use Rattle.std.specs.Changed.{refilled}
 use Rattle.std.specs.declared.alloc.Global.{Global}
 use Rattle.std.specs.declared.vec.Vec.{Vec}
-use Rattle.outline.specs.Building.{Arranged, Gathering, Settled, SettledFrom}
-use Rattle.outline.specs.Nesting.{at, children-of, highest, roots-of, run-of}
+use Rattle.outline.specs.Building.{Arranged, Gathering, Ready, Settled, SettledFrom}
+use Rattle.outline.specs.Nesting.{Outermost, Stepwise, Within, at, children-of, highest, roots-of, run-of}
 use Rattle.outline.specs.declared.building.Gathered.{Gathered}
 use Rattle.outline.specs.declared.entries.Entry.{Entry}
 use Rattle.outline.specs.declared.entries.Place.{Place}
@@ -86,6 +86,15 @@ module _ (depths : List ℕ) (places : List Place) (before after : List Entry) (
           let same : i ≡ j = omega arith in
           subst P same (subst Q (sym (getD-set-same places i p _ (omega arith))) new))
         (cases-lt i j)
+
+-- below an entry its children can be gathered, and above all the outermost entries
+pub ready-below : (depths : List ℕ) (places : List Place) (children : List Entry) (n : ℕ) → 0 < n → n ≤ length depths → length places ≡ length depths → Within depths → Stepwise depths → SettledFrom depths places children n
+  → Ready depths places children (n - 1 + 1) (getD depths (n - 1) 0 + 1)
+ready-below depths places children n some l long within stepwise settled =
+    record { long = long; within = omega arith; shallow = omega (arith, within (n - 1)); next = stepwise (n - 1); settled = λ j a b. settled j (omega arith) b }
+
+pub ready-all : {depths : List ℕ} {places : List Place} {children : List Entry} → length places ≡ length depths → Outermost depths → SettledFrom depths places children 0 → Ready depths places children 0 0
+ready-all long outermost settled = record { long = long; within = omega arith; shallow = omega arith; next = omega (arith, outermost); settled = settled }
 
 pub arranged : {depths : List ℕ} {places : List Place} {before after : List Entry} {g : Gathered} {top : ℕ} → length places ≡ length depths → SettledFrom depths places before 0
   → Gathering depths places 0 0 before g after → top ≡ length before → Arranged depths places after top

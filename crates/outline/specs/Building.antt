@@ -26,6 +26,14 @@ pub record Settled (depths : List ℕ) (places : List Place) (children : List En
 abbrev pub SettledFrom : List ℕ → List Place → List Entry → ℕ → Type 0
 SettledFrom depths places children i = (j : ℕ) → i ≤ j → j < length depths → Settled depths places children j (at places j)
 
+-- the entries at a depth can be gathered from a number on: all from there are settled, and the next is no deeper
+pub record Ready (depths : List ℕ) (places : List Place) (children : List Entry) (from depth : ℕ) : Type 0 where
+  pub long : length places ≡ length depths
+  pub within : from ≤ length depths
+  pub shallow : depth ≤ 64
+  pub next : getD depths from 0 ≤ depth
+  pub settled : SettledFrom depths places children from
+
 -- the entries at a depth from a number on are on the list of children, after what was on it
 pub record Gathering (depths : List ℕ) (places : List Place) (from depth : ℕ) (before : List Entry) (g : Gathered) (after : List Entry) : Type 0 where
   pub appended : after ≡ before ++ kids depth from (drop from depths)

@@ -1,10 +1,9 @@
 //! How the runs of children are found: from the last entry to the first, so that what lies below is settled before.
-ghost use Prim.Native.Nat.{_≤_};
-ghost use Rattle.outline.specs.Building.{Arranged, Gathering, SettledFrom};
+ghost use Rattle.outline.specs.Building.{Arranged, Gathering, Ready, SettledFrom};
 ghost use Rattle.outline.specs.Nesting.{Outermost, Stepwise, Within};
 ghost use Rattle.std.specs.Of.Vec.{vec-items};
 ghost use Rattle.std.specs.Vec.{made};
-ghost use lib.ListN.{getD, length};
+ghost use lib.ListN.{length};
 ghost use mathlib.Core.Path.{_≡_};
 use crate::entries::Entry;
 use crate::entries::Place;
@@ -20,11 +19,7 @@ pub struct Gathered {
 
 // Appends the entries at a depth from a number on, up to the first that is less deep.
 pub(crate) fn gather(depths: &[usize], places: &[Place], from: usize, depth: usize, children: &mut Vec<Entry>) -> Result<Gathered, AllocError>
-    requires long { ⌜ length (now places) ≡ length (now depths) ⌝ }
-    requires within { ⌜ from ≤ length (now depths) ⌝ }
-    requires shallow { ⌜ depth ≤ 64 ⌝ }
-    requires first { ⌜ getD (now depths) from 0 ≤ depth ⌝ }
-    requires settled { ⌜ SettledFrom (now depths) (now places) (vec-items (now children)) from ⌝ }
+    requires { ⌜ Ready (now depths) (now places) (vec-items (now children)) from depth ⌝ }
     ensures { λ r. ⌜ made r (λ g. Gathering (now (depths .entry)) (now (places .entry)) from depth (vec-items (now (children .entry))) g (vec-items (now (children .exit)))) ⌝ }
 {
     let mut at = from;

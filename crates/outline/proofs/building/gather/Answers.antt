@@ -1,16 +1,17 @@
 use mathlib.Core.Logic.{inl, inr}
-use native.Mathlib.Omega.{arith}
-use Rattle.outline.proofs.Gather.{started, stepped, finished}
+use mathlib.Core.Path.{subst, sym}
+use Prim.Native.Nat.{ℕ, _<_}
+use Rattle.outline.proofs.Gather.{started, stepped, finished, falls-short}
 use Rattle.outline.proofs.building.gather.Needs as need
 
 pub index-places-at : need.index-places-at
-index-places-at c = omega (arith, c .pre .long)
+index-places-at c = subst (λ (n : ℕ). c .loop-at .at < n) (sym (c .pre .long)) (c .loop-at-test .taken)
 
 pub index-places-at-in-loop-at : need.index-places-at-in-loop-at
-index-places-at-in-loop-at c = omega (arith, c .pre .long)
+index-places-at-in-loop-at c = subst (λ (n : ℕ). c .loop-at .at < n) (sym (c .pre .long)) (c .loop-at-test .taken)
 
 pub loop-at-holds : need.loop-at-holds
-loop-at-holds c = started _ _ _ _ _ (c .pre .within) (c .pre .shallow) (c .pre .first)
+loop-at-holds c = started _ _ _ _ _ (c .pre)
 
 pub loop-at-again : need.loop-at-again
 loop-at-again c =
@@ -18,7 +19,7 @@ loop-at-again c =
     stepped _ _ _ _ _ _ _ _ (c .loop-at .inv) (c .loop-at-test .taken) (c .if-depths-at .taken) settled (c .max-height .ensures) (c .in-Continue-push .ensures tt .items)
 
 pub loop-at-less : need.loop-at-less
-loop-at-less c = let s = c .pre .settled (c .loop-at .at) (c .loop-at .inv .low) (c .loop-at-test .taken) in omega (arith, s .after, s .past)
+loop-at-less c = falls-short (c .pre .settled (c .loop-at .at) (c .loop-at .inv .low) (c .loop-at-test .taken))
 
 pub returns-else-depths-at : need.returns-else-depths-at
 returns-else-depths-at c = finished _ _ _ _ _ _ _ _ (c .loop-at .inv) (inr (c .if-depths-at .left))

@@ -1,16 +1,14 @@
 use mathlib.Core.Path.{refl}
-use native.Mathlib.Omega.{arith}
 use Rattle.std.specs.Of.Vec.{vec-items}
-use Rattle.outline.proofs.Drafted.{nests-more, texts-more}
+use Rattle.outline.proofs.Drafted.{few-more, nests-more, paired-more, texts-more}
 use Rattle.outline.proofs.drafts.Draft.push.Needs as need
 
 pub ghost-result : need.ghost-result
 ghost-result c =
     let d = c .args .self in
-    let text-len = c .in-Continue-push .ensures tt .len in
     let depth-len = c .in-Continue-push-2 .ensures tt .len in
     let n = nests-more d (c .args .depth) (vec-items (c .push-2 .last .self)) (c .in-Continue-push-2 .ensures tt .items) (c .pre .within) (c .pre .nests) in
-    (omega (arith, depth-len, c .pre .room), (omega (arith, depth-len, text-len, d .texted), (n .outermost, (n .stepwise, (n .within, tt)))))
+    (few-more depth-len (c .pre .room), (paired-more (d .texted) (c .in-Continue-push .ensures tt .len) depth-len, (n .outermost, (n .stepwise, (n .within, tt)))))
 
 pub returns : need.returns
 returns c =
