@@ -1,4 +1,3 @@
-pub mod Answered
 pub mod Drafted
 pub mod Gather
 pub mod Kids

@@ -35,7 +35,7 @@ highest-bound places (x ∷ es) zero e h = le-max-left _ _
 highest-bound places (x ∷ es) (suc i) e h = let k = highest-bound places es i e (omega arith) in omega (arith, le-max-right (at places (x .number) .height) (highest places es))
 
 -- a known entry stands within the list of places
-pub within : (o : Outline) (e : Entry) → known-in o e ≡ true → e .number < length (vec-items (o .places))
+within : (o : Outline) (e : Entry) → known-in o e ≡ true → e .number < length (vec-items (o .places))
 within o e k = omega (arith, ltb-true (e .number) (vec-len (o .places)) k, o .places .ok .0)
 
 child-known : (o : Outline) (e : Entry) (i : ℕ) → known-in o e ≡ true → i < length (children-in o e) → child-of (children-in o) e i .number < vec-len (o .places)

@@ -26,8 +26,8 @@ impl Outline {
     pub fn roots(&self) -> &[Entry]
         ensures { λ r. ⌜ now r ≡ roots-of (vec-items (now (self .entry) .depths)) ⌝ }
     {
-        let top = self.top;
-        &self.children[top..]
+        let (_, roots) = self.children.as_slice().split_at(self.top);
+        roots
     }
 
     /// The text of an entry; fault 2 at one that the outline does not have.
@@ -51,6 +51,16 @@ impl Outline {
             Err(NoEntry { entry: e })
         }
     }
+
+    // The children of an entry.
+    fn run(&self, e: Entry) -> Result<&[Entry], NoEntry>
+        ensures { λ r. ⌜ Cases r (λ s. (known-in (now (self .entry)) e ≡ true) × (now s ≡ children-in (now (self .entry)) e)) (λ f. (known-in (now (self .entry)) e ≡ false) × (f ≡ missing-in (now (self .entry)) e)) ⌝ }
+    {
+        let place = self.place(e)?;
+        let first = place.first;
+        let past = first + place.count;
+        Ok(&self.children[first..past])
+    }
 }
 
 pub impl Tree for Outline as OutlineTree {
@@ -68,7 +78,7 @@ pub impl Tree for Outline as OutlineTree {
     ghost lawful = { outline-law };
 
     fn knows(&self, e: Entry) -> bool {
-        e.number < self.places.len()
+        e.number < self.len()
     }
 
     fn height(&self, e: Entry) -> Result<usize, NoEntry> {
@@ -77,14 +87,14 @@ pub impl Tree for Outline as OutlineTree {
     }
 
     fn child_count(&self, e: Entry) -> Result<usize, NoEntry> {
-        let place = self.place(e)?;
-        Ok(place.count)
+        let run = self.run(e)?;
+        Ok(run.len())
     }
 
     fn child(&self, e: Entry, i: usize) -> Result<Entry, NoEntry> {
-        let place = self.place(e)?;
-        if i < place.count {
-            Ok(self.children[place.first + i])
+        let run = self.run(e)?;
+        if i < run.len() {
+            Ok(run[i])
         } else {
             Err(NoEntry { entry: e })
         }
