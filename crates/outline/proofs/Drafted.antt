@@ -55,7 +55,7 @@ module _ (ds : List ℕ) (d : ℕ) where
 
 -- what is known of an entry that is not refused
 passed : (b₁ b₂ b₃ b₄ b₅ : Bool) (q k : ℕ) (c₂ c₃ c₄ c₅ : Cause) → cond b₁ (Ok None) (cond b₂ (Err c₂) (cond b₃ (Err c₃) (cond b₄ (Err c₄) (cond b₅ (Ok (Some q)) (Err c₅))))) ≡ Ok (Some k)
-  → (k ≡ q) × (b₄ ≡ false) × (b₅ ≡ true)
+    → (k ≡ q) × (b₄ ≡ false) × (b₅ ≡ true)
 passed true b₂ b₃ b₄ b₅ q k c₂ c₃ c₄ c₅ e = let z : _≡_ {A = ℕ} 0 1 = cc in absurd (omega arith)
 passed false true b₃ b₄ b₅ q k c₂ c₃ c₄ c₅ e = let z : _≡_ {A = ℕ} 0 1 = cc in absurd (omega arith)
 passed false false true b₄ b₅ q k c₂ c₃ c₄ c₅ e = let z : _≡_ {A = ℕ} 0 1 = cc in absurd (omega arith)

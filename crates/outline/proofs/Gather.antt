@@ -38,13 +38,13 @@ module _ (depths : List ℕ) (places : List Place) (from depth : ℕ) (before : 
 
   module _ (i height : ℕ) (held : List Entry) (going : Going depths places from depth before i height held) where
     turned : i < length depths → depth ≤ getD depths i 0 → {kept : List Entry} → Settled depths places kept i (at places i)
-      → Going depths places from depth before (at places i .past) (max height (at places i .height)) (held ++ record { number = i } ∷ [])
+        → Going depths places from depth before (at places i .past) (max height (at places i .height)) (held ++ record { number = i } ∷ [])
     turned l d s =
         let e : getD depths i 0 ≡ depth = omega (arith, going .next) in
         let p = at places i in
         let skip : from-on depths depth (i + 1) ≡ from-on depths depth (p .past) =
-            kids-skip depths depth (i + 1) (p .past - (i + 1)) (omega (arith, s .past, s .after)) (λ k a b. omega (arith, s .below k (omega arith) (omega (arith, s .after))))
-            ∙ ap (from-on depths depth) (omega (arith, s .after)) in
+        kids-skip depths depth (i + 1) (p .past - (i + 1)) (omega (arith, s .past, s .after)) (λ k a b. omega (arith, s .below k (omega arith) (omega (arith, s .after))))
+        ∙ ap (from-on depths depth) (omega (arith, s .after)) in
         let next : from-on depths depth i ≡ record { number = i } ∷ from-on depths depth (p .past) = kids-here depths depth i l e ∙ ap (λ es. record { number = i } ∷ es) skip in
         record {
           low = omega (arith, going .low, s .after);
@@ -53,12 +53,12 @@ module _ (depths : List ℕ) (places : List Place) (from depth : ℕ) (before : 
           highest-is = max-assoc height (p .height) _ ∙ ap (λ es. max height (highest places es)) (sym next) ∙ going .highest-is;
           shallow = let m : max height (p .height) ≤ 64 - depth = max-le (omega (arith, going .shallow)) (omega (arith, s .shallow)) in omega (arith, going .shallow);
           deep = λ k a b. ⊎-elim (λ before. going .deep k a before) (λ from-here. ⊎-elim (λ (same : i < k). omega (arith, s .below k same b)) (λ same. subst (λ j. depth ≤ getD depths j 0) {x = i} (omega arith) d) (cases-lt i k)) (cases-lt k i);
-          next = omega (arith, s .stops)
+          next = omega (arith, s .stops);
         }
 
     pub stepped : i < length depths → depth ≤ getD depths i 0 → {kept : List Entry} → Settled depths places kept i (at places i)
-      → {height′ : ℕ} {held′ : List Entry} → height′ ≡ max height (at places i .height) → held′ ≡ held ++ record { number = i } ∷ []
-      → Going depths places from depth before (at places i .past) height′ held′
+        → {height′ : ℕ} {held′ : List Entry} → height′ ≡ max height (at places i .height) → held′ ≡ held ++ record { number = i } ∷ []
+        → Going depths places from depth before (at places i .past) height′ held′
     stepped l d s e f = rw (e, f) (turned l d s)
 
     none : (length depths ≤ i) ⊎ (getD depths i 0 < depth) → from-on depths depth i ≡ []
@@ -66,11 +66,11 @@ module _ (depths : List ℕ) (places : List Place) (from depth : ℕ) (before : 
 
     pub finished : (length depths ≤ i) ⊎ (getD depths i 0 < depth) → Gathering depths places from depth before (record { height = height; past = i }) held
     finished over = record {
-        appended = sym (append-nil held) ∙ ap (λ es. held ++ es) (sym (none over)) ∙ going .appended;
-        height = sym (max-zero height) ∙ ap (λ es. max height (highest places es)) (sym (none over)) ∙ going .highest-is;
-        shallow = going .shallow;
-        low = going .low;
-        high = going .high;
-        deep = going .deep;
-        stops = λ l. ⊎-elim (λ e. absurd (omega arith)) (λ less. less) over
-      }
+      appended = sym (append-nil held) ∙ ap (λ es. held ++ es) (sym (none over)) ∙ going .appended;
+      height = sym (max-zero height) ∙ ap (λ es. max height (highest places es)) (sym (none over)) ∙ going .highest-is;
+      shallow = going .shallow;
+      low = going .low;
+      high = going .high;
+      deep = going .deep;
+      stops = λ l. ⊎-elim (λ e. absurd (omega arith)) (λ less. less) over;
+    }

@@ -22,7 +22,7 @@ tested : (xs ys : List ℕ) (r : Bool) → Decides r (xs ≡ ys) → r ≡ sameB
 tested xs ys r h = search (needs, sameBytes-decides)
 
 pub ends-told : (o : Outline) (path : List Entry) (word : List ℕ) (r : Bool) {text : List ℕ} → eqb (length path) 0 ≡ false → known-in o (last-of path) ≡ true → text ≡ text-in o (last-of path) → Decides r (text ≡ word)
-  → r ≡ ends-at o path word
+    → r ≡ ends-at o path word
 ends-told o path word r {text} some known is decides =
     tested text word r decides ∙ ap (λ t. sameBytes t word) is
     ∙ ap (λ b. b && sameBytes (text-in o (last-of path)) word) (sym known) ∙ sym (cond-false (eqb (length path) 0) _ _ some)

@@ -24,9 +24,9 @@ kids-within depth number (d ∷ ds) i e h =
     cond-both (ltb d depth) [] _ P (λ _ (l : i < 0). absurd (omega arith))
     (λ _. cond-both (eqb d depth) _ _ P (λ _. here i (λ j l. kids-within depth (suc number) ds j e l)) (λ _ l. let k = kids-within depth (suc number) ds i e l in omega arith)) h
   where
-  here : (i : ℕ) → ((j : ℕ) → j < length (kids depth (suc number) ds) → getD (kids depth (suc number) ds) j e .number < suc number + length ds) → i < suc (length (kids depth (suc number) ds)) → getD (record { number = number } ∷ kids depth (suc number) ds) i e .number < number + length (d ∷ ds)
-  here zero later l = omega arith
-  here (suc i) later l = let k = later i (omega arith) in omega arith
+    here : (i : ℕ) → ((j : ℕ) → j < length (kids depth (suc number) ds) → getD (kids depth (suc number) ds) j e .number < suc number + length ds) → i < suc (length (kids depth (suc number) ds)) → getD (record { number = number } ∷ kids depth (suc number) ds) i e .number < number + length (d ∷ ds)
+    here zero later l = omega arith
+    here (suc i) later l = let k = later i (omega arith) in omega arith
 
 -- none is higher than the highest
 highest-bound : (places : List Place) (es : List Entry) (i : ℕ) (e : Entry) → i < length es → at places (getD es i e .number) .height ≤ highest places es
@@ -46,8 +46,8 @@ child-known o e i k h =
 
 pub outline-law : (o : Outline) → TreeLaw (known-in o) (height-in o) (children-in o)
 outline-law o = record {
-    kept = λ e i k h. lt-ltb _ _ (child-known o e i k h);
-    low = λ e k. omega (arith, o .measured (e .number) (within o e k));
-    high = λ e k. omega (arith, o .shallow (e .number) (within o e k));
-    falls = λ e i k h. omega (arith, o .measured (e .number) (within o e k), highest-bound (vec-items (o .places)) (children-in o e) i e h)
-  }
+  kept = λ e i k h. lt-ltb _ _ (child-known o e i k h);
+  low = λ e k. omega (arith, o .measured (e .number) (within o e k));
+  high = λ e k. omega (arith, o .shallow (e .number) (within o e k));
+  falls = λ e i k h. omega (arith, o .measured (e .number) (within o e k), highest-bound (vec-items (o .places)) (children-in o e) i e h);
+}

@@ -18,7 +18,13 @@ pub struct Gathered {
 }
 
 // Appends the entries at a depth from a number on, up to the first that is less deep.
-pub(crate) fn gather(depths: &[usize], places: &[Place], from: usize, depth: usize, children: &mut Vec<Entry>) -> Result<Gathered, AllocError>
+pub(crate) fn gather(
+    depths: &[usize],
+    places: &[Place],
+    from: usize,
+    depth: usize,
+    children: &mut Vec<Entry>,
+) -> Result<Gathered, AllocError>
     requires { ⌜ Ready (now depths) (now places) (vec-items (now children)) from depth ⌝ }
     ensures { λ r. ⌜ made r (λ g. Gathering (now (depths .entry)) (now (places .entry)) from depth (vec-items (now (children .entry))) g (vec-items (now (children .exit)))) ⌝ }
 {
@@ -33,7 +39,11 @@ pub(crate) fn gather(depths: &[usize], places: &[Place], from: usize, depth: usi
 }
 
 // Settles every entry: its run of children, its height and the number just past its last descendant.
-pub(crate) fn settle(depths: &[usize], places: &mut [Place], children: &mut Vec<Entry>) -> Result<(), AllocError>
+pub(crate) fn settle(
+    depths: &[usize],
+    places: &mut [Place],
+    children: &mut Vec<Entry>,
+) -> Result<(), AllocError>
     requires long { ⌜ length (now places) ≡ length (now depths) ⌝ }
     requires within { ⌜ Within (now depths) ⌝ }
     requires stepwise { ⌜ Stepwise (now depths) ⌝ }
@@ -43,7 +53,12 @@ pub(crate) fn settle(depths: &[usize], places: &mut [Place], children: &mut Vec<
         let first = children.len();
         let gathered = gather(depths, places, i + 1, depths[i] + 1, children)?;
         let count = children.len() - first;
-        places[i] = Place { first, count, height: gathered.height + 1, past: gathered.past };
+        places[i] = Place {
+            first,
+            count,
+            height: gathered.height + 1,
+            past: gathered.past,
+        };
     }
     Ok(())
 }
@@ -63,10 +78,19 @@ pub(crate) fn arrange(heap: Global, depths: &[usize]) -> Result<Runs, AllocError
     requires stepwise { ⌜ Stepwise (now depths) ⌝ }
     ensures { λ r. ⌜ made r (λ t. Arranged (now (depths .entry)) (vec-items (t .places)) (vec-items (t .children)) (t .top)) ⌝ }
 {
-    let mut places = vec![in heap; Place { first: 0, count: 0, height: 0, past: 0 }; depths.len()]?;
+    let mut places = vec![in heap; Place {
+        first: 0,
+        count: 0,
+        height: 0,
+        past: 0
+    }; depths.len()]?;
     let mut children = Vec::with_capacity(heap, depths.len())?;
     settle(depths, places.as_mut_slice(), &mut children)?;
     let top = children.len();
     gather(depths, &places, 0, 0, &mut children)?;
-    Ok(Runs { places, children, top })
+    Ok(Runs {
+        places,
+        children,
+        top,
+    })
 }

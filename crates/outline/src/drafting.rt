@@ -24,7 +24,12 @@ impl Draft {
     pub fn new(heap: Global) -> Draft
         ensures { λ r. ⌜ (vec-items (r .depths) ≡ []) × (vec-items (r .texts) ≡ []) × (r .lines ≡ 0) ⌝ }
     {
-        Draft { heap, depths: Vec::new(heap), texts: Vec::new(heap), lines: 0 }
+        Draft {
+            heap,
+            depths: Vec::new(heap),
+            texts: Vec::new(heap),
+            lines: 0,
+        }
     }
 
     // How deep the next entry may be: the first outermost, each other one level below the entry before.
@@ -32,7 +37,11 @@ impl Draft {
         ensures { λ r. ⌜ r ≡ most-after (vec-items (now (self .entry) .depths)) ⌝ }
     {
         let len = self.depths.len();
-        if len == 0 { 0 } else { self.depths[len - 1] + 1 }
+        if len == 0 {
+            0
+        } else {
+            self.depths[len - 1] + 1
+        }
     }
 
     // How deep the entry of the next line is, or why the line is refused.
@@ -42,7 +51,11 @@ impl Draft {
         let Some(depth) = depth(line, self.most())? else {
             return Ok(None);
         };
-        if self.depths.len() < ENTRIES { Ok(Some(depth)) } else { Err(Cause::Full) }
+        if self.depths.len() < ENTRIES {
+            Ok(Some(depth))
+        } else {
+            Err(Cause::Full)
+        }
     }
 
     /// Adds the next line. A line without text is counted and adds no entry.
@@ -55,7 +68,10 @@ impl Draft {
         let number = self.lines.saturating_add(1);
         let found = match self.judge(line) {
             Ok(found) => found,
-            Err(cause) => return Err(OutlineFault { line: number, cause }),
+            Err(cause) => return Err(OutlineFault {
+                line: number,
+                cause,
+            }),
         };
         self.lines = number;
         let Some(depth) = found else {
@@ -63,7 +79,10 @@ impl Draft {
         };
         match self.push(depth, text(line)) {
             Ok(draft) => Ok(draft),
-            Err(_) => Err(OutlineFault { line: number, cause: Cause::Memory }),
+            Err(_) => Err(OutlineFault {
+                line: number,
+                cause: Cause::Memory,
+            }),
         }
     }
 
@@ -71,9 +90,24 @@ impl Draft {
     pub fn finish(self) -> Result<Outline, AllocError>
         ensures { λ r. ⌜ made r (λ o. Finished self o) ⌝ }
     {
-        let Draft { heap, depths, texts, .. } = self;
-        let Runs { places, children, top } = arrange(heap, &depths)?;
-        Ok(Outline { depths, texts, places, children, top })
+        let Draft {
+            heap,
+            depths,
+            texts,
+            ..
+        } = self;
+        let Runs {
+            places,
+            children,
+            top,
+        } = arrange(heap, &depths)?;
+        Ok(Outline {
+            depths,
+            texts,
+            places,
+            children,
+            top,
+        })
     }
 
     // One entry more, where it is known to nest.
@@ -83,10 +117,20 @@ impl Draft {
         requires nests { ⌜ depth ≤ most-after (vec-items (self .depths)) ⌝ }
         ensures { λ r. ⌜ made r (λ d. Longer self depth (now (text .entry)) d × (d .lines ≡ self .lines)) ⌝ }
     {
-        let Draft { heap, mut depths, mut texts, lines } = self;
+        let Draft {
+            heap,
+            mut depths,
+            mut texts,
+            lines,
+        } = self;
         let text = String::from_str(heap, text)?;
         texts.push(text)?;
         depths.push(depth)?;
-        Ok(Draft { heap, depths, texts, lines })
+        Ok(Draft {
+            heap,
+            depths,
+            texts,
+            lines,
+        })
     }
 }

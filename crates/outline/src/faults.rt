@@ -23,8 +23,14 @@ pub impl fmt::Display for Cause as CauseDisplay {
     fn fmt<W: fmt::Write>(&self, f: &mut fmt::Formatter<W>) -> fmt::Result {
         match *self {
             Cause::Tab => f.write_str("expected an indent of spaces, found a tab"),
-            Cause::Odd { spaces } => write!(f, "expected an indent of two spaces a level, found {spaces}"),
-            Cause::Skip { most, spaces } => write!(f, "expected an indent of at most {most} spaces here, found {spaces}"),
+            Cause::Odd { spaces } => write!(
+                f,
+                "expected an indent of two spaces a level, found {spaces}"
+            ),
+            Cause::Skip { most, spaces } => write!(
+                f,
+                "expected an indent of at most {most} spaces here, found {spaces}"
+            ),
             Cause::Deep => f.write_str("expected at most 64 levels, found one more"),
             Cause::Full => f.write_str("expected at most 4096 entries, found one more"),
             Cause::Memory => f.write_str("expected memory for the entry, found none"),

@@ -66,7 +66,10 @@ pub fn depth(line: &str, most: usize) -> Result<Option<usize>, Cause>
     } else if spaces % 2 == 1 {
         Err(Cause::Odd { spaces })
     } else if spaces / 2 > most {
-        Err(Cause::Skip { most: most * 2, spaces })
+        Err(Cause::Skip {
+            most: most * 2,
+            spaces,
+        })
     } else if spaces / 2 >= LEVELS {
         Err(Cause::Deep)
     } else {

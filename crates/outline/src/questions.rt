@@ -65,6 +65,7 @@ impl Outline {
 
 pub impl Tree for Outline as OutlineTree {
     type Name = Entry;
+
     type Fault = NoEntry;
 
     ghost known = { known-in };

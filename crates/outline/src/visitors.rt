@@ -55,7 +55,10 @@ pub impl<'a> Visitor<Outline> for Record<'a> as RecordVisitor {
         if at >= self.lines.len() {
             return false;
         }
-        self.lines[at] = Shown { entry: path[path.len() - 1], names: path.len() };
+        self.lines[at] = Shown {
+            entry: path[path.len() - 1],
+            names: path.len(),
+        };
         self.len = at + 1;
         true
     }

@@ -14,5 +14,5 @@ range-requires c κs =
     record {
       forward = omega arith;
       start-boundary = subst (λ (s : List ℕ). 0 < from → Boundary s from) (bytes .value) (cut-after _ from (bytes .utf8) (c .indent-from .ensures .within) (c .indent-from .ensures .before));
-      end-boundary = subst (λ (s : List ℕ). Boundary s to) (bytes .value) (cut-before _ to (c .end-of-text-to .ensures .within) (c .end-of-text-to .ensures .closes))
+      end-boundary = subst (λ (s : List ℕ). Boundary s to) (bytes .value) (cut-before _ to (c .end-of-text-to .ensures .within) (c .end-of-text-to .ensures .closes));
     }

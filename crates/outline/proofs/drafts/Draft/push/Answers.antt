@@ -11,6 +11,10 @@ ghost-result c =
     (few-more depth-len (c .pre .room), (paired-more (d .texted) (c .in-Continue-push .ensures tt .len) depth-len, (n .outermost, (n .stepwise, (n .within, tt)))))
 
 pub returns : need.returns
-returns c =
-    ((c .in-Continue-push-2 .ensures tt .items,
-    texts-more (c .args .self .texts) (c .push .last .self) (c .in-Continue-text .text) (c .args .text .now) (c .in-Continue-push .ensures tt .items) (c .in-Continue-text .ensures tt .made)), refl)
+returns c = (
+  (
+    c .in-Continue-push-2 .ensures tt .items,
+    texts-more (c .args .self .texts) (c .push .last .self) (c .in-Continue-text .text) (c .args .text .now) (c .in-Continue-push .ensures tt .items) (c .in-Continue-text .ensures tt .made),
+  ),
+  refl,
+)

@@ -10,7 +10,8 @@ use Rattle.outline.proofs.outlines.Outline.text.Needs as need
 pub returns-then-e-len : need.returns-then-e-len
 returns-then-e-len c =
     let o = c .args .self .now in
-    let n = c .args .e .number in
-    (lt-ltb n (vec-len (o .places)) (omega (arith, c .if-e-len .taken, c .len .ensures, o .texted, o .placed)),
-    c .as-str .ensures .value ∙ ap string-bytes (c .index .ensures)
-    ∙ sym (getD-map string-bytes (vec-items (o .texts)) n (c .index .result .now) [] (omega (arith, c .if-e-len .taken, c .len .ensures, o .texts .ok .0))))
+    let n = c .args .e .number in (
+      lt-ltb n (vec-len (o .places)) (omega (arith, c .if-e-len .taken, c .len .ensures, o .texted, o .placed)),
+      c .as-str .ensures .value ∙ ap string-bytes (c .index .ensures)
+          ∙ sym (getD-map string-bytes (vec-items (o .texts)) n (c .index .result .now) [] (omega (arith, c .if-e-len .taken, c .len .ensures, o .texts .ok .0))),
+    )
