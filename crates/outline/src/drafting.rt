@@ -5,7 +5,6 @@ ghost use Rattle.std.specs.Of.Vec.{vec-items, vec-len};
 ghost use Rattle.std.specs.Vec.{made};
 ghost use mathlib.Core.List.{[]};
 ghost use mathlib.Core.Path.{_≡_};
-use crate::building::Runs;
 use crate::building::arrange;
 use crate::drafts::Draft;
 use crate::faults::Cause;
@@ -96,17 +95,13 @@ impl Draft {
             texts,
             ..
         } = self;
-        let Runs {
-            places,
-            children,
-            top,
-        } = arrange(heap, &depths)?;
+        let runs = arrange(heap, &depths)?;
         Ok(Outline {
             depths,
             texts,
-            places,
-            children,
-            top,
+            places: runs.places,
+            children: runs.children,
+            top: runs.top,
         })
     }
 

@@ -52,10 +52,26 @@ mod tests {
     #[test]
     fn indents(rt: LibcRuntime) -> Result<(), Fail> {
         let heap = rt.alloc();
-        refused(heap, "Pump\n\tMotor", "line 2: expected an indent of spaces, found a tab")?;
-        refused(heap, "Pump\n\n   Motor", "line 3: expected an indent of two spaces a level, found 3")?;
-        refused(heap, "  Pump", "line 1: expected an indent of at most 0 spaces here, found 2")?;
-        refused(heap, "Pump\n  Motor\n      Fan", "line 3: expected an indent of at most 4 spaces here, found 6")
+        refused(
+            heap,
+            "Pump\n\tMotor",
+            "line 2: expected an indent of spaces, found a tab",
+        )?;
+        refused(
+            heap,
+            "Pump\n\n   Motor",
+            "line 3: expected an indent of two spaces a level, found 3",
+        )?;
+        refused(
+            heap,
+            "  Pump",
+            "line 1: expected an indent of at most 0 spaces here, found 2",
+        )?;
+        refused(
+            heap,
+            "Pump\n  Motor\n      Fan",
+            "line 3: expected an indent of at most 4 spaces here, found 6",
+        )
     }
 
     #[test]
@@ -69,7 +85,13 @@ mod tests {
             indent.push_str("  ")?;
         }
         let line = format!(heap, "{indent}x")?;
-        check_eq(draft.add(line.as_str()).err(), Some(OutlineFault { line: 65, cause: Cause::Deep }))
+        check_eq(
+            draft.add(line.as_str()).err(),
+            Some(OutlineFault {
+                line: 65,
+                cause: Cause::Deep,
+            }),
+        )
     }
 
     #[test]
@@ -78,6 +100,12 @@ mod tests {
         for _ in 0..4096 {
             draft = draft.add("x")?;
         }
-        check_eq(draft.add("x").err(), Some(OutlineFault { line: 4097, cause: Cause::Full }))
+        check_eq(
+            draft.add("x").err(),
+            Some(OutlineFault {
+                line: 4097,
+                cause: Cause::Full,
+            }),
+        )
     }
 }

@@ -26,7 +26,11 @@ fn names(heap: Global) -> Result<Vec<Entry>, AnyError> {
 }
 
 // Walks from each outermost entry in turn, up to the first no.
-fn walk_roots<V: Visitor<Outline>>(outline: &Outline, path: &mut PathStack<'_, Entry>, visitor: &mut V) -> Result<Outcome, AnyError> {
+fn walk_roots<V: Visitor<Outline>>(
+    outline: &Outline,
+    path: &mut PathStack<'_, Entry>,
+    visitor: &mut V,
+) -> Result<Outcome, AnyError> {
     for root in outline.roots() {
         match walk(outline, *root, path, visitor) {
             Ok(Outcome::Finished) => {}
@@ -53,7 +57,10 @@ fn print_lines(rt: &LibcRuntime, outline: &Outline, lines: &[Shown]) -> Result<(
 /// Prints the path of every line, and how many lines there are.
 pub fn print_all(rt: &LibcRuntime, outline: &Outline) -> Result<(), AnyError> {
     let mut names = names(rt.alloc())?;
-    let blank = Shown { entry: Entry { number: 0 }, names: 0 };
+    let blank = Shown {
+        entry: Entry { number: 0 },
+        names: 0,
+    };
     let mut memory = vec![in rt.alloc(); blank; outline.len()]?;
     let mut path = PathStack::new(names.as_mut_slice());
     let mut record = Record::new(memory.as_mut_slice());
