@@ -1,7 +1,6 @@
 -- What a line adds to a draft. Assumes nothing.
 use mathlib.Core.Bool.{cond}
 use mathlib.Core.List.{List, [], _∷_, _++_, map}
-use mathlib.Core.Logic.{_⊎_}
 use mathlib.Core.Path.{_≡_}
 use Prim.Native.Nat.{ℕ, min, _+_, _-_, _^_}
 use lib.Dec.{eqb, ltb}
@@ -54,10 +53,16 @@ grown (Ok None) before line after = (vec-items (after .depths) ≡ vec-items (be
 grown (Ok (Some d)) before line after = Longer before d (text-of line) after
 grown (Err c) before line after = ⊥
 
--- A line was added, and counted; or it was refused by its number, for a cause of its own or for want of memory.
+-- why it is not added, as it is judged: for its own cause, or an entry for want of memory
+abbrev pub denied : Result (Option ℕ) Cause → Cause → Type 0
+denied (Ok None) cause = ⊥
+denied (Ok (Some d)) cause = cause ≡ Memory
+denied (Err c) cause = cause ≡ c
+
+-- A line was added, and counted; or it was refused, by its number.
 abbrev pub Added : Draft → List ℕ → Result Draft OutlineFault → Type 0
 Added before line (Ok after) = grown (judged before line) before line after × (after .lines ≡ number-after (before .lines))
-Added before line (Err f) = ((judged before line ≡ Err (f .cause)) ⊎ (f .cause ≡ Memory)) × (f .line ≡ number-after (before .lines))
+Added before line (Err f) = denied (judged before line) (f .cause) × (f .line ≡ number-after (before .lines))
 
 -- an outline has the entries of a draft
 abbrev pub Finished : Draft → Outline → Type 0

@@ -64,8 +64,10 @@ pub fn print_all(rt: &LibcRuntime, outline: &Outline) -> Result<(), AnyError> {
     let mut memory = vec![in rt.alloc(); blank; outline.len()]?;
     let mut path = PathStack::new(names.as_mut_slice());
     let mut record = Record::new(memory.as_mut_slice());
-    walk_roots(outline, &mut path, &mut record)?;
-    print_lines(rt, outline, record.lines())
+    match walk_roots(outline, &mut path, &mut record)? {
+        Outcome::Finished => print_lines(rt, outline, record.lines()),
+        Outcome::Stopped => Err("the outline has more lines than entries".into()),
+    }
 }
 
 /// Prints the path of the first line that ends at an entry with a text, or that there is none.
