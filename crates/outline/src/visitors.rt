@@ -1,7 +1,6 @@
 //! Two visitors over an outline: one that records the lines shown, and one that looks for a text.
-ghost use Rattle.outline.specs.Visits.{ends-at, noted, room-for};
+ghost use Rattle.outline.specs.Visits.{ends-at, noted, recorded, room-for};
 ghost use denote.Ref.{name, now as held};
-ghost use lib.ListN.{take};
 ghost use mathlib.Core.Bool.{not};
 ghost use mathlib.Core.Path.{_≡_};
 use crate::entries::Entry;
@@ -35,7 +34,7 @@ impl<'a> Record<'a> {
 
     /// The lines recorded, the first first.
     pub fn lines(&self) -> &[Shown]
-        ensures { λ r. ⌜ now r ≡ take (now (self .entry) .len) (now (now (self .entry) .lines)) ⌝ }
+        ensures { λ r. ⌜ now r ≡ recorded (now (self .entry)) ⌝ }
     {
         let len = self.len.min(self.lines.len());
         &self.lines[0..len]
