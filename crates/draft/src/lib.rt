@@ -2,4 +2,5 @@
 pub mod details;
 pub mod drafts;
 pub mod fits;
+pub mod keys;
 pub mod lists;

@@ -31,6 +31,7 @@ pub fn every<X: Copy, T: Test<X>>(test: &T, xs: &[X]) -> bool
 }
 
 /// Names whose positions are in range.
+#[derive(Clone, Copy)]
 pub struct InRange;
 
 pub impl Test<RawIdent> for InRange as InRangeTest {
@@ -42,6 +43,7 @@ pub impl Test<RawIdent> for InRange as InRangeTest {
 }
 
 /// Names that lie within a text of some length.
+#[derive(Clone, Copy)]
 pub struct Within {
     pub text: usize,
 }
@@ -55,6 +57,7 @@ pub impl Test<RawIdent> for Within as WithinTest {
 }
 
 /// Names that have a position.
+#[derive(Clone, Copy)]
 pub struct HasPosition;
 
 pub impl Test<RawIdent> for HasPosition as HasPositionTest {
@@ -66,6 +69,7 @@ pub impl Test<RawIdent> for HasPosition as HasPositionTest {
 }
 
 /// Numbers below a number of arms.
+#[derive(Clone, Copy)]
 pub struct Below {
     pub arms: usize,
 }

@@ -1,7 +1,14 @@
--- The kinds and their numbers. Assumes nothing.
+-- The kinds, their numbers and their names. Assumes nothing.
+use mathlib.Core.Bool.{Bool, true, false, cond}
 use mathlib.Core.List.{List, [], _∷_}
 use Prim.Native.Nat.{ℕ}
+use lib.Chars.{codes}
 use lib.ListN.{getD}
+use Rattle.std.specs.declared.option.Option.{Option}
+use Rattle.std.specs.declared.option.Option.the-variants.{Some, None}
+use Rattle.std.specs.shelf.Text.{sameBytes}
+use Rattle.node.specs.declared.kinds.Kind.{Kind}
+use Rattle.node.specs.declared.kinds.Kind.the-variants as kind
 use Rattle.node.specs.declared.kinds.StmtKind.{StmtKind}
 use Rattle.node.specs.declared.kinds.StmtKind.the-variants as stmt
 use Rattle.node.specs.declared.kinds.ExprKind.{ExprKind}
@@ -67,3 +74,67 @@ exprs =
 
 abbrev pub expr-at : ℕ → ExprKind
 expr-at n = getD exprs n expr.Unit
+
+-- the name of a kind of statement
+abbrev pub stmt-name : StmtKind → List ℕ
+stmt-name stmt.Noop = codes "Noop"
+stmt-name stmt.If = codes "If"
+stmt-name stmt.Switch = codes "Switch"
+stmt-name stmt.While = codes "While"
+stmt-name stmt.Do = codes "Do"
+stmt-name stmt.For = codes "For"
+stmt-name stmt.Var = codes "Var"
+stmt-name stmt.Assignment = codes "Assignment"
+stmt-name stmt.FnCall = codes "FnCall"
+stmt-name stmt.Block = codes "Block"
+stmt-name stmt.TryCatch = codes "TryCatch"
+stmt-name stmt.Expr = codes "Expr"
+stmt-name stmt.BreakLoop = codes "BreakLoop"
+stmt-name stmt.Return = codes "Return"
+stmt-name stmt.Import = codes "Import"
+stmt-name stmt.Export = codes "Export"
+stmt-name stmt.Share = codes "Share"
+
+-- the name of a kind of expression
+abbrev pub expr-name : ExprKind → List ℕ
+expr-name expr.DynamicConstant = codes "DynamicConstant"
+expr-name expr.BoolConstant = codes "BoolConstant"
+expr-name expr.IntegerConstant = codes "IntegerConstant"
+expr-name expr.FloatConstant = codes "FloatConstant"
+expr-name expr.CharConstant = codes "CharConstant"
+expr-name expr.StringConstant = codes "StringConstant"
+expr-name expr.InterpolatedString = codes "InterpolatedString"
+expr-name expr.Array = codes "Array"
+expr-name expr.Map = codes "Map"
+expr-name expr.Unit = codes "Unit"
+expr-name expr.Variable = codes "Variable"
+expr-name expr.ThisPtr = codes "ThisPtr"
+expr-name expr.Property = codes "Property"
+expr-name expr.MethodCall = codes "MethodCall"
+expr-name expr.Stmt = codes "Stmt"
+expr-name expr.FnCall = codes "FnCall"
+expr-name expr.Dot = codes "Dot"
+expr-name expr.Index = codes "Index"
+expr-name expr.And = codes "And"
+expr-name expr.Or = codes "Or"
+expr-name expr.Coalesce = codes "Coalesce"
+expr-name expr.Custom = codes "Custom"
+
+-- the first of some kinds with this name
+abbrev pub named : {K : Type 0} → (K → List ℕ) → List K → List ℕ → Option K
+named name [] bs = None
+named name (k ∷ ks) bs = cond (sameBytes (name k) bs) (Some k) (named name ks bs)
+
+abbrev pub stmt-named : List ℕ → Option StmtKind
+stmt-named bs = named stmt-name stmts bs
+
+abbrev pub expr-named : List ℕ → Option ExprKind
+expr-named bs = named expr-name exprs bs
+
+abbrev pub is-stmt : Kind → Bool
+is-stmt (kind.Stmt k) = true
+is-stmt (kind.Expr k) = false
+
+abbrev pub kind-name : Kind → List ℕ
+kind-name (kind.Stmt k) = stmt-name k
+kind-name (kind.Expr k) = expr-name k

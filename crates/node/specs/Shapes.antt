@@ -23,6 +23,28 @@ use Rattle.node.specs.declared.shapes.Value.the-variants as value
 abbrev row : Head → Blocks → Extra → Value → Names → Bool → Bool → Shape
 row h b e v n f p = record { head = h; blocks = b; extra = e; value = v; names = n; flags = f; position = p }
 
+-- rows made step by step: a head and a position alone, and then one column more
+abbrev pub of : Head → Shape
+of h = row h blocks.None extra.None value.None names.None false true
+
+abbrev pub with-blocks : Blocks → Shape → Shape
+with-blocks b s = row (s .head) b (s .extra) (s .value) (s .names) (s .flags) (s .position)
+
+abbrev pub with-extra : Extra → Shape → Shape
+with-extra e s = row (s .head) (s .blocks) e (s .value) (s .names) (s .flags) (s .position)
+
+abbrev pub with-value : Value → Shape → Shape
+with-value v s = row (s .head) (s .blocks) (s .extra) v (s .names) (s .flags) (s .position)
+
+abbrev pub with-names : Names → Shape → Shape
+with-names n s = row (s .head) (s .blocks) (s .extra) (s .value) n (s .flags) (s .position)
+
+abbrev pub flagged : Shape → Shape
+flagged s = row (s .head) (s .blocks) (s .extra) (s .value) (s .names) true (s .position)
+
+abbrev pub unplaced : Shape → Shape
+unplaced s = row (s .head) (s .blocks) (s .extra) (s .value) (s .names) (s .flags) false
+
 abbrev pub stmt-shape : StmtKind → Shape
 stmt-shape stmt.Noop = row head.None blocks.None extra.None value.None names.None false true
 stmt-shape stmt.If = row head.One blocks.Walked extra.None value.None names.None false true

@@ -1,12 +1,16 @@
 //! The kinds of statements and expressions, numbered from 0 in the order of the Rust's enums.
-ghost use Rattle.node.specs.Kinds.{expr-at, expr-number, stmt-at, stmt-number};
+ghost use Prim.Native.Nat.{ℕ};
+ghost use Rattle.node.specs.Kinds.{expr-at, expr-name, expr-named, expr-number, is-stmt, kind-name, named, stmt-at, stmt-name, stmt-named, stmt-number};
+ghost use Rattle.std.specs.Orderings.{Decides};
 ghost use Rattle.std.specs.declared.option.Option.the-variants.{None, Some};
 ghost use lib.Dec.{ltb};
 ghost use mathlib.Core.Bool.{cond};
+ghost use mathlib.Core.List.{List};
 ghost use mathlib.Core.Path.{_≡_};
+use std::fmt;
 
 /// The kinds of statements.
-#[derive(Clone, Copy, PartialEq, Eq, Debug)]
+#[derive(Clone, Copy, Eq, Debug)]
 pub enum StmtKind {
     Noop,
     If,
@@ -30,6 +34,27 @@ pub enum StmtKind {
 impl StmtKind {
     /// How many kinds there are.
     pub const COUNT: u32 = 17;
+
+    /// All kinds, in the order of their numbers.
+    pub const ALL: [StmtKind; 17] = [
+        StmtKind::Noop,
+        StmtKind::If,
+        StmtKind::Switch,
+        StmtKind::While,
+        StmtKind::Do,
+        StmtKind::For,
+        StmtKind::Var,
+        StmtKind::Assignment,
+        StmtKind::FnCall,
+        StmtKind::Block,
+        StmtKind::TryCatch,
+        StmtKind::Expr,
+        StmtKind::BreakLoop,
+        StmtKind::Return,
+        StmtKind::Import,
+        StmtKind::Export,
+        StmtKind::Share,
+    ];
 
     /// Its number, counted from 0.
     pub fn number(self) -> u32
@@ -81,10 +106,67 @@ impl StmtKind {
             _ => None,
         }
     }
+
+    /// Its name.
+    pub fn name(self) -> &'static str
+        ensures { λ r. ⌜ now r ≡ stmt-name self ⌝ }
+    {
+        match self {
+            StmtKind::Noop => "Noop",
+            StmtKind::If => "If",
+            StmtKind::Switch => "Switch",
+            StmtKind::While => "While",
+            StmtKind::Do => "Do",
+            StmtKind::For => "For",
+            StmtKind::Var => "Var",
+            StmtKind::Assignment => "Assignment",
+            StmtKind::FnCall => "FnCall",
+            StmtKind::Block => "Block",
+            StmtKind::TryCatch => "TryCatch",
+            StmtKind::Expr => "Expr",
+            StmtKind::BreakLoop => "BreakLoop",
+            StmtKind::Return => "Return",
+            StmtKind::Import => "Import",
+            StmtKind::Export => "Export",
+            StmtKind::Share => "Share",
+        }
+    }
+
+    /// The kind of a name; none where there is no such kind.
+    pub fn from_name(name: &[u8]) -> Option<StmtKind>
+        ensures value { λ r. ⌜ r ≡ stmt-named (now (name .entry)) ⌝ }
+        ensures finds { λ r. ⌜ ((k : StmtKind) → now (name .entry) ≡ stmt-name k → r ≡ Some k) ⌝ }
+    {
+        find(&StmtKind::ALL, name)
+    }
+}
+
+pub impl PartialEq<StmtKind> for StmtKind as StmtKindPartialEq {
+    ghost equals = { λ a b r. Decides r (a ≡ b) };
+
+    fn eq(&self, other: &StmtKind) -> bool {
+        self.number() == other.number()
+    }
+}
+
+impl Named for StmtKind as StmtKindNamed {
+    ghost label = { stmt-name };
+
+    fn label(self) -> &'static str {
+        self.name()
+    }
+}
+
+pub impl fmt::Display for StmtKind as StmtKindDisplay {
+    ghost shown = { λ k. Some (stmt-name k) };
+
+    fn fmt<W: fmt::Write>(&self, f: &mut fmt::Formatter<W>) -> fmt::Result {
+        f.write_str(self.name())
+    }
 }
 
 /// The kinds of expressions.
-#[derive(Clone, Copy, PartialEq, Eq, Debug)]
+#[derive(Clone, Copy, Eq, Debug)]
 pub enum ExprKind {
     DynamicConstant,
     BoolConstant,
@@ -113,6 +195,32 @@ pub enum ExprKind {
 impl ExprKind {
     /// How many kinds there are.
     pub const COUNT: u32 = 22;
+
+    /// All kinds, in the order of their numbers.
+    pub const ALL: [ExprKind; 22] = [
+        ExprKind::DynamicConstant,
+        ExprKind::BoolConstant,
+        ExprKind::IntegerConstant,
+        ExprKind::FloatConstant,
+        ExprKind::CharConstant,
+        ExprKind::StringConstant,
+        ExprKind::InterpolatedString,
+        ExprKind::Array,
+        ExprKind::Map,
+        ExprKind::Unit,
+        ExprKind::Variable,
+        ExprKind::ThisPtr,
+        ExprKind::Property,
+        ExprKind::MethodCall,
+        ExprKind::Stmt,
+        ExprKind::FnCall,
+        ExprKind::Dot,
+        ExprKind::Index,
+        ExprKind::And,
+        ExprKind::Or,
+        ExprKind::Coalesce,
+        ExprKind::Custom,
+    ];
 
     /// Its number, counted from 0.
     pub fn number(self) -> u32
@@ -174,6 +282,68 @@ impl ExprKind {
             _ => None,
         }
     }
+
+    /// Its name.
+    pub fn name(self) -> &'static str
+        ensures { λ r. ⌜ now r ≡ expr-name self ⌝ }
+    {
+        match self {
+            ExprKind::DynamicConstant => "DynamicConstant",
+            ExprKind::BoolConstant => "BoolConstant",
+            ExprKind::IntegerConstant => "IntegerConstant",
+            ExprKind::FloatConstant => "FloatConstant",
+            ExprKind::CharConstant => "CharConstant",
+            ExprKind::StringConstant => "StringConstant",
+            ExprKind::InterpolatedString => "InterpolatedString",
+            ExprKind::Array => "Array",
+            ExprKind::Map => "Map",
+            ExprKind::Unit => "Unit",
+            ExprKind::Variable => "Variable",
+            ExprKind::ThisPtr => "ThisPtr",
+            ExprKind::Property => "Property",
+            ExprKind::MethodCall => "MethodCall",
+            ExprKind::Stmt => "Stmt",
+            ExprKind::FnCall => "FnCall",
+            ExprKind::Dot => "Dot",
+            ExprKind::Index => "Index",
+            ExprKind::And => "And",
+            ExprKind::Or => "Or",
+            ExprKind::Coalesce => "Coalesce",
+            ExprKind::Custom => "Custom",
+        }
+    }
+
+    /// The kind of a name; none where there is no such kind.
+    pub fn from_name(name: &[u8]) -> Option<ExprKind>
+        ensures value { λ r. ⌜ r ≡ expr-named (now (name .entry)) ⌝ }
+        ensures finds { λ r. ⌜ ((k : ExprKind) → now (name .entry) ≡ expr-name k → r ≡ Some k) ⌝ }
+    {
+        find(&ExprKind::ALL, name)
+    }
+}
+
+pub impl PartialEq<ExprKind> for ExprKind as ExprKindPartialEq {
+    ghost equals = { λ a b r. Decides r (a ≡ b) };
+
+    fn eq(&self, other: &ExprKind) -> bool {
+        self.number() == other.number()
+    }
+}
+
+impl Named for ExprKind as ExprKindNamed {
+    ghost label = { expr-name };
+
+    fn label(self) -> &'static str {
+        self.name()
+    }
+}
+
+pub impl fmt::Display for ExprKind as ExprKindDisplay {
+    ghost shown = { λ k. Some (expr-name k) };
+
+    fn fmt<W: fmt::Write>(&self, f: &mut fmt::Formatter<W>) -> fmt::Result {
+        f.write_str(self.name())
+    }
 }
 
 /// The kind of a node: that of a statement or that of an expression.
@@ -181,4 +351,54 @@ impl ExprKind {
 pub enum Kind {
     Stmt(StmtKind),
     Expr(ExprKind),
+}
+
+impl Kind {
+    /// Whether it is the kind of a statement.
+    pub fn is_stmt(self) -> bool
+        ensures { λ r. ⌜ r ≡ is-stmt self ⌝ }
+    {
+        match self {
+            Kind::Stmt(_) => true,
+            Kind::Expr(_) => false,
+        }
+    }
+
+    /// Its name within its enum.
+    pub fn name(self) -> &'static str
+        ensures { λ r. ⌜ now r ≡ kind-name self ⌝ }
+    {
+        match self {
+            Kind::Stmt(kind) => kind.name(),
+            Kind::Expr(kind) => kind.name(),
+        }
+    }
+}
+
+pub impl fmt::Display for Kind as KindDisplay {
+    ghost shown = { λ k. Some (kind-name k) };
+
+    fn fmt<W: fmt::Write>(&self, f: &mut fmt::Formatter<W>) -> fmt::Result {
+        f.write_str(self.name())
+    }
+}
+
+// A kind that is looked for by its name.
+trait Named {
+    ghost label: { Self → List ℕ };
+
+    fn label(self) -> &'static str
+        ensures { λ r. ⌜ now r ≡ label self ⌝ };
+}
+
+// The first of some kinds that has this name.
+fn find<K: Named + Copy>(kinds: &[K], name: &[u8]) -> Option<K>
+    ensures { λ r. ⌜ r ≡ named label (now (kinds .entry)) (now (name .entry)) ⌝ }
+{
+    for kind in kinds {
+        if kind.label().as_bytes() == name {
+            return Some(*kind);
+        }
+    }
+    None
 }

@@ -5,3 +5,4 @@ pub mod kinds;
 pub mod positions;
 pub mod records;
 pub mod shapes;
+pub mod texts;

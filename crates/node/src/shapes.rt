@@ -1,5 +1,5 @@
 //! The table of shapes: what differs from kind to kind, in one place.
-ghost use Rattle.node.specs.Shapes.{expr-shape, shape-of, stmt-shape};
+ghost use Rattle.node.specs.Shapes.{expr-shape, flagged, of, shape-of, stmt-shape, unplaced, with-blocks, with-extra, with-names, with-value};
 ghost use mathlib.Core.Path.{_≡_};
 use crate::kinds::ExprKind;
 use crate::kinds::Kind;
@@ -100,25 +100,62 @@ pub struct Shape {
     pub position: bool,
 }
 
-fn row(
-    head: Head,
-    blocks: Blocks,
-    extra: Extra,
-    value: Value,
-    names: Names,
-    flags: bool,
-    position: bool,
-) -> Shape
-    ensures { λ r. ⌜ r ≡ record { head = head; blocks = blocks; extra = extra; value = value; names = names; flags = flags; position = position } ⌝ }
-{
-    Shape {
-        head,
-        blocks,
-        extra,
-        value,
-        names,
-        flags,
-        position,
+impl Shape {
+    // A shape with a position and so many expressions, and nothing else.
+    fn of(head: Head) -> Shape
+        ensures { λ r. ⌜ r ≡ of head ⌝ }
+    {
+        Shape {
+            head,
+            blocks: Blocks::None,
+            extra: Extra::None,
+            value: Value::None,
+            names: Names::None,
+            flags: false,
+            position: true,
+        }
+    }
+
+    fn blocks(self, blocks: Blocks) -> Shape
+        ensures { λ r. ⌜ r ≡ with-blocks blocks self ⌝ }
+    {
+        Shape { blocks, ..self }
+    }
+
+    fn extra(self, extra: Extra) -> Shape
+        ensures { λ r. ⌜ r ≡ with-extra extra self ⌝ }
+    {
+        Shape { extra, ..self }
+    }
+
+    fn value(self, value: Value) -> Shape
+        ensures { λ r. ⌜ r ≡ with-value value self ⌝ }
+    {
+        Shape { value, ..self }
+    }
+
+    fn names(self, names: Names) -> Shape
+        ensures { λ r. ⌜ r ≡ with-names names self ⌝ }
+    {
+        Shape { names, ..self }
+    }
+
+    fn flagged(self) -> Shape
+        ensures { λ r. ⌜ r ≡ flagged self ⌝ }
+    {
+        Shape {
+            flags: true,
+            ..self
+        }
+    }
+
+    fn unplaced(self) -> Shape
+        ensures { λ r. ⌜ r ≡ unplaced self ⌝ }
+    {
+        Shape {
+            position: false,
+            ..self
+        }
     }
 }
 
@@ -128,159 +165,25 @@ impl StmtKind {
         ensures { λ r. ⌜ r ≡ stmt-shape self ⌝ }
     {
         match self {
-            StmtKind::Noop => row(
-                Head::None,
-                Blocks::None,
-                Extra::None,
-                Value::None,
-                Names::None,
-                false,
-                true,
-            ),
-            StmtKind::If => row(
-                Head::One,
-                Blocks::Walked,
-                Extra::None,
-                Value::None,
-                Names::None,
-                false,
-                true,
-            ),
-            StmtKind::Switch => row(
-                Head::One,
-                Blocks::None,
-                Extra::Arms,
-                Value::None,
-                Names::None,
-                false,
-                true,
-            ),
-            StmtKind::While => row(
-                Head::One,
-                Blocks::Held,
-                Extra::None,
-                Value::None,
-                Names::None,
-                false,
-                true,
-            ),
-            StmtKind::Do => row(
-                Head::One,
-                Blocks::Held,
-                Extra::None,
-                Value::None,
-                Names::None,
-                true,
-                true,
-            ),
-            StmtKind::For => row(
-                Head::One,
-                Blocks::Held,
-                Extra::None,
-                Value::None,
-                Names::Counter,
-                false,
-                true,
-            ),
-            StmtKind::Var => row(
-                Head::One,
-                Blocks::None,
-                Extra::None,
-                Value::None,
-                Names::One,
-                true,
-                true,
-            ),
-            StmtKind::Assignment => row(
-                Head::Two,
-                Blocks::None,
-                Extra::None,
-                Value::None,
-                Names::None,
-                false,
-                true,
-            ),
-            StmtKind::FnCall => row(
-                Head::Any,
-                Blocks::None,
-                Extra::None,
-                Value::None,
-                Names::Call,
-                false,
-                true,
-            ),
-            StmtKind::Block => row(
-                Head::None,
-                Blocks::List,
-                Extra::None,
-                Value::None,
-                Names::None,
-                false,
-                false,
-            ),
-            StmtKind::TryCatch => row(
-                Head::One,
-                Blocks::Catch,
-                Extra::None,
-                Value::None,
-                Names::None,
-                false,
-                true,
-            ),
-            StmtKind::Expr => row(
-                Head::One,
-                Blocks::None,
-                Extra::None,
-                Value::None,
-                Names::None,
-                false,
-                false,
-            ),
-            StmtKind::BreakLoop => row(
-                Head::Optional,
-                Blocks::None,
-                Extra::None,
-                Value::None,
-                Names::None,
-                true,
-                true,
-            ),
-            StmtKind::Return => row(
-                Head::Optional,
-                Blocks::None,
-                Extra::None,
-                Value::None,
-                Names::None,
-                true,
-                true,
-            ),
-            StmtKind::Import => row(
-                Head::One,
-                Blocks::None,
-                Extra::None,
-                Value::None,
-                Names::One,
-                false,
-                true,
-            ),
-            StmtKind::Export => row(
-                Head::None,
-                Blocks::None,
-                Extra::None,
-                Value::None,
-                Names::Two,
-                false,
-                true,
-            ),
-            StmtKind::Share => row(
-                Head::None,
-                Blocks::None,
-                Extra::Shared,
-                Value::None,
-                Names::None,
-                false,
-                false,
-            ),
+            StmtKind::Noop => Shape::of(Head::None),
+            StmtKind::If => Shape::of(Head::One).blocks(Blocks::Walked),
+            StmtKind::Switch => Shape::of(Head::One).extra(Extra::Arms),
+            StmtKind::While => Shape::of(Head::One).blocks(Blocks::Held),
+            StmtKind::Do => Shape::of(Head::One).blocks(Blocks::Held).flagged(),
+            StmtKind::For => Shape::of(Head::One)
+                .blocks(Blocks::Held)
+                .names(Names::Counter),
+            StmtKind::Var => Shape::of(Head::One).names(Names::One).flagged(),
+            StmtKind::Assignment => Shape::of(Head::Two),
+            StmtKind::FnCall => Shape::of(Head::Any).names(Names::Call),
+            StmtKind::Block => Shape::of(Head::None).blocks(Blocks::List).unplaced(),
+            StmtKind::TryCatch => Shape::of(Head::One).blocks(Blocks::Catch),
+            StmtKind::Expr => Shape::of(Head::One).unplaced(),
+            StmtKind::BreakLoop => Shape::of(Head::Optional).flagged(),
+            StmtKind::Return => Shape::of(Head::Optional).flagged(),
+            StmtKind::Import => Shape::of(Head::One).names(Names::One),
+            StmtKind::Export => Shape::of(Head::None).names(Names::Two),
+            StmtKind::Share => Shape::of(Head::None).extra(Extra::Shared).unplaced(),
         }
     }
 }
@@ -291,204 +194,28 @@ impl ExprKind {
         ensures { λ r. ⌜ r ≡ expr-shape self ⌝ }
     {
         match self {
-            ExprKind::DynamicConstant => row(
-                Head::None,
-                Blocks::None,
-                Extra::None,
-                Value::Stored,
-                Names::None,
-                false,
-                true,
-            ),
-            ExprKind::BoolConstant => row(
-                Head::None,
-                Blocks::None,
-                Extra::None,
-                Value::Bool,
-                Names::None,
-                false,
-                true,
-            ),
-            ExprKind::IntegerConstant => row(
-                Head::None,
-                Blocks::None,
-                Extra::None,
-                Value::Integer,
-                Names::None,
-                false,
-                true,
-            ),
-            ExprKind::FloatConstant => row(
-                Head::None,
-                Blocks::None,
-                Extra::None,
-                Value::Float,
-                Names::None,
-                false,
-                true,
-            ),
-            ExprKind::CharConstant => row(
-                Head::None,
-                Blocks::None,
-                Extra::None,
-                Value::Char,
-                Names::None,
-                false,
-                true,
-            ),
-            ExprKind::StringConstant => row(
-                Head::None,
-                Blocks::None,
-                Extra::None,
-                Value::Text,
-                Names::None,
-                false,
-                true,
-            ),
-            ExprKind::InterpolatedString => row(
-                Head::Any,
-                Blocks::None,
-                Extra::None,
-                Value::None,
-                Names::None,
-                false,
-                true,
-            ),
-            ExprKind::Array => row(
-                Head::Any,
-                Blocks::None,
-                Extra::None,
-                Value::None,
-                Names::None,
-                false,
-                true,
-            ),
-            ExprKind::Map => row(
-                Head::Any,
-                Blocks::None,
-                Extra::Keys,
-                Value::None,
-                Names::None,
-                false,
-                true,
-            ),
-            ExprKind::Unit => row(
-                Head::None,
-                Blocks::None,
-                Extra::None,
-                Value::None,
-                Names::None,
-                false,
-                true,
-            ),
-            ExprKind::Variable => row(
-                Head::None,
-                Blocks::None,
-                Extra::None,
-                Value::None,
-                Names::Call,
-                false,
-                true,
-            ),
-            ExprKind::ThisPtr => row(
-                Head::None,
-                Blocks::None,
-                Extra::None,
-                Value::None,
-                Names::None,
-                false,
-                true,
-            ),
-            ExprKind::Property => row(
-                Head::None,
-                Blocks::None,
-                Extra::None,
-                Value::None,
-                Names::Plain,
-                false,
-                true,
-            ),
-            ExprKind::MethodCall => row(
-                Head::Any,
-                Blocks::None,
-                Extra::None,
-                Value::None,
-                Names::Call,
-                false,
-                true,
-            ),
-            ExprKind::Stmt => row(
-                Head::None,
-                Blocks::List,
-                Extra::None,
-                Value::None,
-                Names::None,
-                false,
-                false,
-            ),
-            ExprKind::FnCall => row(
-                Head::Any,
-                Blocks::None,
-                Extra::None,
-                Value::None,
-                Names::Call,
-                false,
-                true,
-            ),
-            ExprKind::Dot => row(
-                Head::Two,
-                Blocks::None,
-                Extra::None,
-                Value::None,
-                Names::None,
-                true,
-                true,
-            ),
-            ExprKind::Index => row(
-                Head::Two,
-                Blocks::None,
-                Extra::None,
-                Value::None,
-                Names::None,
-                true,
-                true,
-            ),
-            ExprKind::And => row(
-                Head::Some,
-                Blocks::None,
-                Extra::None,
-                Value::None,
-                Names::None,
-                false,
-                true,
-            ),
-            ExprKind::Or => row(
-                Head::Some,
-                Blocks::None,
-                Extra::None,
-                Value::None,
-                Names::None,
-                false,
-                true,
-            ),
-            ExprKind::Coalesce => row(
-                Head::Some,
-                Blocks::None,
-                Extra::None,
-                Value::None,
-                Names::None,
-                false,
-                true,
-            ),
-            ExprKind::Custom => row(
-                Head::Any,
-                Blocks::None,
-                Extra::None,
-                Value::None,
-                Names::None,
-                false,
-                true,
-            ),
+            ExprKind::DynamicConstant => Shape::of(Head::None).value(Value::Stored),
+            ExprKind::BoolConstant => Shape::of(Head::None).value(Value::Bool),
+            ExprKind::IntegerConstant => Shape::of(Head::None).value(Value::Integer),
+            ExprKind::FloatConstant => Shape::of(Head::None).value(Value::Float),
+            ExprKind::CharConstant => Shape::of(Head::None).value(Value::Char),
+            ExprKind::StringConstant => Shape::of(Head::None).value(Value::Text),
+            ExprKind::InterpolatedString => Shape::of(Head::Any),
+            ExprKind::Array => Shape::of(Head::Any),
+            ExprKind::Map => Shape::of(Head::Any).extra(Extra::Keys),
+            ExprKind::Unit => Shape::of(Head::None),
+            ExprKind::Variable => Shape::of(Head::None).names(Names::Call),
+            ExprKind::ThisPtr => Shape::of(Head::None),
+            ExprKind::Property => Shape::of(Head::None).names(Names::Plain),
+            ExprKind::MethodCall => Shape::of(Head::Any).names(Names::Call),
+            ExprKind::Stmt => Shape::of(Head::None).blocks(Blocks::List).unplaced(),
+            ExprKind::FnCall => Shape::of(Head::Any).names(Names::Call),
+            ExprKind::Dot => Shape::of(Head::Two).flagged(),
+            ExprKind::Index => Shape::of(Head::Two).flagged(),
+            ExprKind::And => Shape::of(Head::Some),
+            ExprKind::Or => Shape::of(Head::Some),
+            ExprKind::Coalesce => Shape::of(Head::Some),
+            ExprKind::Custom => Shape::of(Head::Any),
         }
     }
 }

@@ -1,0 +1,3 @@
+pub mod Halts
+pub mod Ladders
+pub mod Law
