@@ -1,0 +1,3 @@
+//! Marks: whether an expression is constant, and whether a node is pure.
+mod asks;
+mod constants;
