@@ -21,6 +21,9 @@ use Rattle.node.specs.declared.records.Payload.{Payload}
 use Rattle.node.specs.declared.records.Payload.the-variants as payload
 use Rattle.node.specs.declared.records.Second.{Second}
 use Rattle.node.specs.declared.records.Second.the-variants as second
+use Rattle.node.specs.declared.shapes.Blocks.{Blocks}
+use Rattle.node.specs.declared.shapes.Blocks.the-variants as blocks
+use Rattle.draft.specs.Fits.{same}
 use Rattle.table.specs.Facts.{kid}
 use Rattle.table.specs.State.{State, node-at, links-of, head-of, body-of, branch-of, references-of, default-of, through, value-of, walked-parts, children}
 use Rattle.tree.specs.Lines.{Follow, end-of}
@@ -63,15 +66,14 @@ abbrev pub is-expr-of : ExprKind → Kind → Bool
 is-expr-of k (kind.Stmt j) = false
 is-expr-of k (kind.Expr j) = eqb (expr-number j) (expr-number k)
 
--- The counted children: the walked ones, but a While counts its condition only, a TryCatch its catch expression
--- first, and of a default only the value counts.
-abbrev pub counted-parts : Kind → List ℕ → List ℕ → List ℕ → List ℕ
-counted-parts k head body branch =
-    cond (is-stmt-of stmt.While k) head (cond (is-stmt-of stmt.TryCatch k) (head ++ (body ++ branch)) (walked-parts (shape-of k .blocks) head body branch))
+-- The counted children are the walked ones, but a While counts its condition only, a TryCatch its catch expression
+-- before body and branch, and a default's condition does not count, though its value does.
+abbrev pub counted-blocks : Kind → Blocks
+counted-blocks k = cond (is-stmt-of stmt.While k) blocks.None (cond (is-stmt-of stmt.TryCatch k) blocks.Walked (shape-of k .blocks))
 
 abbrev pub counted-of : (ℕ → ℕ) → Details → Parts → List ℕ
 counted-of f d p =
-    counted-parts (d .kind) (head-of f p) (body-of f p) (branch-of f p) ++ (through f p (references-of f p) ++ map (value-of f p) (default-of (d .second)))
+    walked-parts (counted-blocks (d .kind)) (head-of f p) (body-of f p) (branch-of f p) ++ (through f p (references-of f p) ++ map (value-of f p) (default-of (d .second)))
 
 abbrev pub counted : State → ℕ → List ℕ
 counted s i = counted-of (links-of s (node-at s i)) (node-at s i .details) (node-at s i .parts)
@@ -84,11 +86,6 @@ has-default (second.Namespace q) = false
 has-default (second.Default arm) = true
 
 -- a constant is this Boolean
-abbrev pub same : Bool → Bool → Bool
-same true b = b
-same false true = false
-same false false = true
-
 abbrev pub is-bool : Bool → Constant → Bool
 is-bool b (constant.Stored v) = false
 is-bool b (constant.Bool x) = same x b

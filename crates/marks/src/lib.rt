@@ -1,3 +1,8 @@
 //! Marks: whether an expression is constant, and whether a node is pure.
 mod asks;
 mod constants;
+mod counts;
+mod found;
+mod harmless;
+pub mod marks;
+mod purity;
