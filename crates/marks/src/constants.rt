@@ -52,7 +52,7 @@ fn is_plain_kind(kind: Kind) -> bool
 }
 
 // Whether a known node is constant: it is of such a kind, and so are all below it.
-fn constant_at(table: &Table<'_>, n: usize) -> bool
+pub(crate) fn constant_at(table: &Table<'_>, n: usize) -> bool
     requires { ⌜ known (table-state (now table)) n ≡ true ⌝ }
     ensures { λ r. ⌜ Decides r (IsConstant (table-state (now (table .entry))) n) ⌝ }
 {

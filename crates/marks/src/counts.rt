@@ -1,7 +1,7 @@
 //! The counted children of a node.
 ghost use Prim.Native.Nat.{_+_, _<_, _≤_};
 ghost use Rattle.marks.specs.Marks.{counted, counted-blocks};
-ghost use Rattle.table.specs.Facts.{kid, known};
+ghost use Rattle.table.specs.Facts.{kid, known, rank};
 ghost use Rattle.table.specs.Finds.{run-count, run-from};
 ghost use Rattle.table.specs.Reads.{table-state};
 ghost use Rattle.table.specs.State.{arms-from, default-of, node-at, references};
@@ -46,11 +46,26 @@ fn counted_run(kind: Kind, parts: &Parts) -> Run
     let body = parts.body as usize;
     let branch = parts.branch as usize;
     match counted_blocks(kind) {
-        Blocks::None => Run { from: 0, count: head },
-        Blocks::List => Run { from: head, count: body },
-        Blocks::Walked => Run { from: 0, count: head + body + branch },
-        Blocks::Held => Run { from: 0, count: head + body },
-        Blocks::Catch => Run { from: head, count: body + branch },
+        Blocks::None => Run {
+            from: 0,
+            count: head,
+        },
+        Blocks::List => Run {
+            from: head,
+            count: body,
+        },
+        Blocks::Walked => Run {
+            from: 0,
+            count: head + body + branch,
+        },
+        Blocks::Held => Run {
+            from: 0,
+            count: head + body,
+        },
+        Blocks::Catch => Run {
+            from: head,
+            count: body + branch,
+        },
     }
 }
 
@@ -117,7 +132,7 @@ pub(crate) fn counted_child(table: &Table<'_>, n: usize, i: usize) -> usize
     requires within { ⌜ i < length (counted (table-state (now table)) n) ⌝ }
     ensures value { λ r. ⌜ r ≡ getD (counted (table-state (now (table .entry))) n) i n ⌝ }
     ensures known { λ r. ⌜ known (table-state (now (table .entry))) r ≡ true ⌝ }
-    ensures lower { λ r. ⌜ r < n ⌝ }
+    ensures lower { λ r. ⌜ rank (table-state (now (table .entry))) r < rank (table-state (now (table .entry))) n ⌝ }
 {
     let node = node_at(table, n);
     let run = counted_run(node.details.kind, &node.parts);
