@@ -1,3 +1,4 @@
 pub mod Marks
 pub mod Answers
 pub mod Runs
+pub mod Questions

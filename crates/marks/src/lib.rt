@@ -6,3 +6,4 @@ mod found;
 mod harmless;
 pub mod marks;
 mod purity;
+pub mod questions;

@@ -1,0 +1,133 @@
+//! What is asked of a node beside its marks.
+ghost use Prim.Native.Nat.{ℕ};
+ghost use Rattle.marks.specs.Marks.{is-stmt-of};
+ghost use Rattle.marks.specs.Questions.{has-options, options-of, returns-value, table-options, table-returns-value};
+ghost use Rattle.node.specs.declared.faults.TableFault.{TableFault};
+ghost use Rattle.node.specs.declared.flags.ASTFlags.{ASTFlags};
+ghost use Rattle.node.specs.declared.kinds.Kind.the-variants.{Expr, Stmt};
+ghost use Rattle.std.specs.declared.result.Result.{Result};
+ghost use mathlib.Core.Bool.{Bool};
+ghost use mathlib.Core.Path.{_≡_};
+use node::faults::TableFault;
+use node::flags::ASTFlags;
+use node::kinds::ExprKind;
+use node::kinds::Kind;
+use node::kinds::StmtKind;
+use node::records::Details;
+use table::tables::Table;
+
+fn stmt_has_options(kind: StmtKind) -> bool
+    ensures { λ r. ⌜ r ≡ has-options (Stmt kind) ⌝ }
+{
+    match kind {
+        StmtKind::Do | StmtKind::Var | StmtKind::BreakLoop | StmtKind::Return => true,
+        StmtKind::Noop
+        | StmtKind::If
+        | StmtKind::Switch
+        | StmtKind::Block
+        | StmtKind::Expr
+        | StmtKind::FnCall
+        | StmtKind::While
+        | StmtKind::For
+        | StmtKind::TryCatch
+        | StmtKind::Assignment
+        | StmtKind::Import
+        | StmtKind::Export
+        | StmtKind::Share => false,
+    }
+}
+
+fn expr_has_options(kind: ExprKind) -> bool
+    ensures { λ r. ⌜ r ≡ has-options (Expr kind) ⌝ }
+{
+    match kind {
+        ExprKind::Index | ExprKind::Dot => true,
+        ExprKind::FloatConstant
+        | ExprKind::DynamicConstant
+        | ExprKind::BoolConstant
+        | ExprKind::IntegerConstant
+        | ExprKind::CharConstant
+        | ExprKind::Unit
+        | ExprKind::StringConstant
+        | ExprKind::Array
+        | ExprKind::Map
+        | ExprKind::Variable
+        | ExprKind::ThisPtr
+        | ExprKind::And
+        | ExprKind::Or
+        | ExprKind::Coalesce
+        | ExprKind::FnCall
+        | ExprKind::MethodCall
+        | ExprKind::InterpolatedString
+        | ExprKind::Property
+        | ExprKind::Stmt
+        | ExprKind::Custom => false,
+    }
+}
+
+fn kind_has_options(kind: Kind) -> bool
+    ensures { λ r. ⌜ r ≡ has-options kind ⌝ }
+{
+    match kind {
+        Kind::Stmt(kind) => stmt_has_options(kind),
+        Kind::Expr(kind) => expr_has_options(kind),
+    }
+}
+
+// The options of a node; none where its kind has none.
+fn options_of(details: &Details) -> ASTFlags
+    ensures { λ r. ⌜ r ≡ options-of (now (details .entry)) ⌝ }
+{
+    if kind_has_options(details.kind) {
+        details.flags
+    } else {
+        ASTFlags::NONE
+    }
+}
+
+fn stmt_returns_value(kind: StmtKind) -> bool
+    ensures { λ r. ⌜ r ≡ returns-value (Stmt kind) ⌝ }
+{
+    match kind {
+        StmtKind::If | StmtKind::Switch | StmtKind::Block | StmtKind::Expr | StmtKind::FnCall => {
+            true
+        }
+        StmtKind::Noop | StmtKind::While | StmtKind::Do | StmtKind::For | StmtKind::TryCatch => {
+            false
+        }
+        StmtKind::Var | StmtKind::Assignment | StmtKind::BreakLoop | StmtKind::Return => false,
+        StmtKind::Import | StmtKind::Export | StmtKind::Share => false,
+    }
+}
+
+/// What is asked of a node.
+pub trait Questions {
+    ghost optional: { Self → ℕ → Result ASTFlags TableFault };
+
+    ghost valued: { Self → ℕ → Result Bool TableFault };
+
+    /// The options of a node, none where its kind has none. Fault 2 at an unknown place.
+    fn options(&self, n: usize) -> Result<ASTFlags, TableFault>
+        ensures { λ r. ⌜ r ≡ optional (now (self .entry)) n ⌝ };
+
+    /// Whether a statement returns a value. Fault 2 at an unknown place, fault 5 at an expression.
+    fn returns_value(&self, n: usize) -> Result<bool, TableFault>
+        ensures { λ r. ⌜ r ≡ valued (now (self .entry)) n ⌝ };
+}
+
+pub impl<'a> Questions for Table<'a> as TableQuestions {
+    ghost optional = { table-options };
+
+    ghost valued = { table-returns-value };
+
+    fn options(&self, n: usize) -> Result<ASTFlags, TableFault> {
+        Ok(options_of(&self.node(n)?.details))
+    }
+
+    fn returns_value(&self, n: usize) -> Result<bool, TableFault> {
+        match self.node(n)?.details.kind {
+            Kind::Stmt(kind) => Ok(stmt_returns_value(kind)),
+            Kind::Expr(_) => Err(TableFault::Misfit(n)),
+        }
+    }
+}
