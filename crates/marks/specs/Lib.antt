@@ -2,3 +2,4 @@ pub mod Marks
 pub mod Answers
 pub mod Runs
 pub mod Questions
+pub mod Positions

@@ -1,11 +1,16 @@
 //! What a table tells of a known node, with no fault left to handle.
 ghost use Prim.Native.Nat.{_<_};
+ghost use Rattle.marks.specs.Marks.{is-expr-of, is-stmt-of};
 ghost use Rattle.table.specs.Facts.{kid, known};
-ghost use Rattle.table.specs.Reads.{has-kid, has-reference, reference-at, table-state};
+ghost use Rattle.table.specs.Reads.{has-kid, has-link, has-reference, ident-at, reference-at, table-state};
 ghost use Rattle.table.specs.State.{children, node-at};
 ghost use lib.ListN.{getD, length};
 ghost use mathlib.Core.Bool.{true};
 ghost use mathlib.Core.Path.{_≡_};
+use node::kinds::ExprKind;
+use node::kinds::Kind;
+use node::kinds::StmtKind;
+use node::records::Ident;
 use node::records::Node;
 use table::tables::Table;
 use table::trees::TableTree;
@@ -45,4 +50,31 @@ pub(crate) fn child_at(table: &Table<'_>, n: usize, i: usize) -> usize
     ensures { λ r. ⌜ r ≡ getD (children (table-state (now (table .entry))) n) i n ⌝ }
 {
     table.child(n, i).unwrap()
+}
+
+pub(crate) fn ident_at(table: &Table<'_>, n: usize, k: usize) -> Ident
+    requires { ⌜ has-link (table-state (now table)) n k ≡ true ⌝ }
+    ensures { λ r. ⌜ r ≡ ident-at (table-state (now (table .entry))) n k ⌝ }
+{
+    table.ident(n, k).unwrap()
+}
+
+// Whether a kind is this one of statements.
+pub(crate) fn is_stmt_of(kind: Kind, wanted: StmtKind) -> bool
+    ensures { λ r. ⌜ r ≡ is-stmt-of wanted kind ⌝ }
+{
+    match kind {
+        Kind::Stmt(kind) => kind.number() == wanted.number(),
+        Kind::Expr(_) => false,
+    }
+}
+
+// Whether a kind is this one of expressions.
+pub(crate) fn is_expr_of(kind: Kind, wanted: ExprKind) -> bool
+    ensures { λ r. ⌜ r ≡ is-expr-of wanted kind ⌝ }
+{
+    match kind {
+        Kind::Stmt(_) => false,
+        Kind::Expr(kind) => kind.number() == wanted.number(),
+    }
 }

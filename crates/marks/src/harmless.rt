@@ -1,30 +1,20 @@
 //! Which nodes do nothing by themselves.
 ghost use Rattle.draft.specs.Fits.{same};
-ghost use Rattle.marks.specs.Marks.{bool-constant, condition-is, expr-harmless, has-default, holds-bool, is-bool, is-expr-of, stmt-harmless};
-ghost use Rattle.node.specs.declared.kinds.ExprKind.the-variants.{BoolConstant};
+ghost use Rattle.marks.specs.Marks.{bool-constant, condition-is, expr-harmless, has-default, holds-bool, is-bool, stmt-harmless};
 ghost use Rattle.table.specs.Facts.{known};
 ghost use Rattle.table.specs.Reads.{table-state};
 ghost use mathlib.Core.Bool.{true};
 ghost use mathlib.Core.Path.{_≡_};
+use crate::asks::is_expr_of;
 use crate::asks::kid_at;
 use crate::asks::node_at;
 use node::kinds::ExprKind;
-use node::kinds::Kind;
 use node::kinds::StmtKind;
 use node::records::Constant;
 use node::records::Details;
 use node::records::Payload;
 use node::records::Second;
 use table::tables::Table;
-
-fn is_bool_kind(kind: Kind) -> bool
-    ensures { λ r. ⌜ r ≡ is-expr-of BoolConstant kind ⌝ }
-{
-    match kind {
-        Kind::Stmt(_) => false,
-        Kind::Expr(kind) => kind.number() == ExprKind::BoolConstant.number(),
-    }
-}
 
 fn equal(a: bool, b: bool) -> bool
     ensures { λ r. ⌜ r ≡ same a b ⌝ }
@@ -58,7 +48,7 @@ fn holds_bool(payload: Payload, value: bool) -> bool
 fn is_bool_constant(details: &Details, value: bool) -> bool
     ensures { λ r. ⌜ r ≡ bool-constant value (now (details .entry)) ⌝ }
 {
-    is_bool_kind(details.kind) && holds_bool(details.payload, value)
+    is_expr_of(details.kind, ExprKind::BoolConstant) && holds_bool(details.payload, value)
 }
 
 // Whether the condition of a node is the Boolean constant of this value.

@@ -5,5 +5,6 @@ mod counts;
 mod found;
 mod harmless;
 pub mod marks;
+mod positions;
 mod purity;
 pub mod questions;

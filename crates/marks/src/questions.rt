@@ -1,18 +1,22 @@
 //! What is asked of a node beside its marks.
 ghost use Prim.Native.Nat.{ℕ};
-ghost use Rattle.marks.specs.Marks.{is-stmt-of};
 ghost use Rattle.marks.specs.Questions.{has-options, options-of, returns-value, table-options, table-returns-value};
+ghost use Rattle.marks.specs.Positions.{table-stands, table-starts};
 ghost use Rattle.node.specs.declared.faults.TableFault.{TableFault};
 ghost use Rattle.node.specs.declared.flags.ASTFlags.{ASTFlags};
 ghost use Rattle.node.specs.declared.kinds.Kind.the-variants.{Expr, Stmt};
+ghost use Rattle.node.specs.declared.positions.Position.{Position};
 ghost use Rattle.std.specs.declared.result.Result.{Result};
 ghost use mathlib.Core.Bool.{Bool};
 ghost use mathlib.Core.Path.{_≡_};
+use crate::positions::position_of;
+use crate::positions::start_of;
 use node::faults::TableFault;
 use node::flags::ASTFlags;
 use node::kinds::ExprKind;
 use node::kinds::Kind;
 use node::kinds::StmtKind;
+use node::positions::Position;
 use node::records::Details;
 use table::tables::Table;
 
@@ -106,6 +110,10 @@ pub trait Questions {
 
     ghost valued: { Self → ℕ → Result Bool TableFault };
 
+    ghost stands: { Self → ℕ → Result Position TableFault → Type 0 };
+
+    ghost starts: { Self → ℕ → Result Position TableFault → Type 0 };
+
     /// The options of a node, none where its kind has none. Fault 2 at an unknown place.
     fn options(&self, n: usize) -> Result<ASTFlags, TableFault>
         ensures { λ r. ⌜ r ≡ optional (now (self .entry)) n ⌝ };
@@ -113,12 +121,24 @@ pub trait Questions {
     /// Whether a statement returns a value. Fault 2 at an unknown place, fault 5 at an expression.
     fn returns_value(&self, n: usize) -> Result<bool, TableFault>
         ensures { λ r. ⌜ r ≡ valued (now (self .entry)) n ⌝ };
+
+    /// The position of a node. Fault 2 at an unknown place.
+    fn position(&self, n: usize) -> Result<Position, TableFault>
+        ensures { λ r. ⌜ stands (now (self .entry)) n r ⌝ };
+
+    /// Where an expression starts: at its left-most expression. Fault 2 at an unknown place, fault 5 at a statement.
+    fn start_position(&self, n: usize) -> Result<Position, TableFault>
+        ensures { λ r. ⌜ starts (now (self .entry)) n r ⌝ };
 }
 
 pub impl<'a> Questions for Table<'a> as TableQuestions {
     ghost optional = { table-options };
 
     ghost valued = { table-returns-value };
+
+    ghost stands = { table-stands };
+
+    ghost starts = { table-starts };
 
     fn options(&self, n: usize) -> Result<ASTFlags, TableFault> {
         Ok(options_of(&self.node(n)?.details))
@@ -128,6 +148,18 @@ pub impl<'a> Questions for Table<'a> as TableQuestions {
         match self.node(n)?.details.kind {
             Kind::Stmt(kind) => Ok(stmt_returns_value(kind)),
             Kind::Expr(_) => Err(TableFault::Misfit(n)),
+        }
+    }
+
+    fn position(&self, n: usize) -> Result<Position, TableFault> {
+        self.node(n)?;
+        Ok(position_of(self, n))
+    }
+
+    fn start_position(&self, n: usize) -> Result<Position, TableFault> {
+        match self.node(n)?.details.kind {
+            Kind::Stmt(_) => Err(TableFault::Misfit(n)),
+            Kind::Expr(_) => Ok(start_of(self, n)),
         }
     }
 }
