@@ -3,3 +3,4 @@ pub mod Answers
 pub mod Runs
 pub mod Questions
 pub mod Positions
+pub mod Names
