@@ -52,7 +52,7 @@ pub length-through : (f : ℕ → ℕ) (p : Parts) (arms : List ℕ) → length 
 length-through f p [] = refl
 length-through f p (a ∷ as′) = omega (arith, length-through f p as′)
 
-getD-through : (f : ℕ → ℕ) (p : Parts) (arms : List ℕ) (j d : ℕ) → j < length arms + length arms
+pub getD-through : (f : ℕ → ℕ) (p : Parts) (arms : List ℕ) (j d : ℕ) → j < length arms + length arms
     → getD (through f p arms) j d ≡ f (arms-from p + getD arms (j / 2) 0 + getD arms (j / 2) 0 + j % 2)
 getD-through f p [] j d lt = absurd (omega arith)
 getD-through f p (a ∷ as′) zero d lt = ap f (omega arith)
