@@ -84,7 +84,7 @@ pub(crate) fn arrange(heap: Global, depths: &[usize]) -> Result<Runs, AllocError
         height: 0,
         past: 0
     }; depths.len()]?;
-    let mut children = Vec::with_capacity(heap, depths.len())?;
+    let mut children = Vec::new(heap);
     settle(depths, places.as_mut_slice(), &mut children)?;
     let top = children.len();
     gather(depths, &places, 0, 0, &mut children)?;

@@ -5,13 +5,12 @@ ghost use mathlib.Core.Bool.{not};
 ghost use mathlib.Core.Path.{_≡_};
 use crate::entries::Entry;
 use crate::entries::EntryDebug;
-use crate::entries::EntryPartialEq;
 use crate::outlines::Outline;
 use crate::questions::OutlineTree;
 use tree::visitors::Visitor;
 
 /// A line that was shown: the entry that it ends at, and how many names its path has.
-#[derive(Clone, Copy, PartialEq, Eq, Debug)]
+#[derive(Clone, Copy, Debug)]
 pub struct Shown {
     pub entry: Entry,
     pub names: usize,
