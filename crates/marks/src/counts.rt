@@ -13,9 +13,9 @@ use crate::asks::node_at;
 use crate::asks::reference_at;
 use kind::kinds::Kind;
 use kind::kinds::StmtKind;
+use kind::shapes::Blocks;
 use node::records::Parts;
 use node::records::Second;
-use kind::shapes::Blocks;
 use table::tables::Table;
 
 /// A run of a node's links: from one on, so many.

@@ -7,8 +7,8 @@ ghost use mathlib.Core.Bool.{Bool};
 use crate::constants::constant_at;
 use crate::found::Found;
 use crate::purity::node_is_pure;
-use node::faults::TableFault;
 use kind::kinds::Kind;
+use node::faults::TableFault;
 use table::tables::Table;
 
 /// What is asked for marks.

@@ -10,3 +10,4 @@ pub mod Pigeons
 pub mod Passed
 pub mod Sized
 pub mod Fitting
+pub mod Counted

@@ -7,3 +7,4 @@ pub mod Fresh
 pub mod Tests
 pub mod Reads
 pub mod Puts
+pub mod Told

@@ -7,12 +7,12 @@ ghost use lib.ListN.{getD, length};
 ghost use mathlib.Core.List.{_++_};
 ghost use mathlib.Core.Path.{_≡_};
 use crate::memory::Memory;
+use kind::shapes::Blocks;
 use node::records::Details;
 use node::records::Link;
 use node::records::Node;
 use node::records::Parts;
 use node::records::Second;
-use kind::shapes::Blocks;
 
 // Where the run of walked parts begins.
 fn run_from(blocks: Blocks, parts: &Parts) -> usize

@@ -24,13 +24,13 @@ use draft::lists::InRangeTest;
 use draft::lists::Within;
 use draft::lists::WithinTest;
 use draft::lists::every;
-use node::faults::StoreFault;
-use node::faults::TableFault;
-use node::faults::TextFault;
 use kind::kinds::ExprKind;
 use kind::kinds::Kind;
 use kind::kinds::StmtKind;
 use kind::shapes::Extra;
+use node::faults::StoreFault;
+use node::faults::TableFault;
+use node::faults::TextFault;
 
 // The children of a draft among the places handed in with it.
 fn kid_places<'p>(draft: &Draft, places: &'p [usize]) -> &'p [usize]

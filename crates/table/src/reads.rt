@@ -1,13 +1,15 @@
 //! What a table tells of a node: its record, and what its links hold.
 ghost use Rattle.node.specs.declared.faults.TableFault.the-variants.{Missing};
-ghost use Rattle.table.specs.Facts.{kid, known};
+ghost use Rattle.table.specs.Facts.{Sound, kid, known};
 ghost use Rattle.table.specs.Reads.{has-kid, has-link, has-reference, ident-at, reference-at, table-state};
-ghost use Rattle.table.specs.State.{kids, node-at, references, total};
+ghost use Rattle.table.specs.State.{kids, node-at, references, state-of, total};
+ghost use Rattle.table.specs.Told.{IsHeight, IsLines};
 ghost use Rattle.tree.specs.Answers.{told};
 ghost use mathlib.Core.Path.{_≡_};
 use crate::children::kid_count;
 use crate::children::link_count;
 use crate::children::reference_count;
+use crate::memory::Memory;
 use crate::tables::Table;
 use node::faults::TableFault;
 use node::records::Ident;
@@ -80,5 +82,51 @@ impl Table<'_> {
         ensures { λ r. ⌜ now r ≡ now (now (self .entry) .text) ⌝ }
     {
         self.text
+    }
+}
+
+impl Table<'_> {
+    /// The number of lines of descent from a node; fault 2 at any other place.
+    pub fn lines(&self, n: usize) -> Result<usize, TableFault>
+        ensures value { λ r. ⌜ r ≡ told (known (table-state (now (self .entry))) n) (node-at (table-state (now (self .entry))) n .lines) (Missing n) ⌝ }
+        ensures counted { λ r. ⌜ IsLines (table-state (now (self .entry))) n r ⌝ }
+    {
+        let memory = &self.memory;
+        memory.lines_of(n)
+    }
+
+    /// The height of a node, one more than the length of its longest line of descent; fault 2 at any other place.
+    pub fn height_of(&self, n: usize) -> Result<usize, TableFault>
+        ensures value { λ r. ⌜ r ≡ told (known (table-state (now (self .entry))) n) (node-at (table-state (now (self .entry))) n .height) (Missing n) ⌝ }
+        ensures longest { λ r. ⌜ IsHeight (table-state (now (self .entry))) n r ⌝ }
+    {
+        let memory = &self.memory;
+        memory.height_of(n)
+    }
+}
+
+impl Memory<'_> {
+    fn lines_of(&self, n: usize) -> Result<usize, TableFault>
+        requires { ⌜ Sound (state-of (now self)) ⌝ }
+        ensures value { λ r. ⌜ r ≡ told (known (state-of (now (self .entry))) n) (node-at (state-of (now (self .entry))) n .lines) (Missing n) ⌝ }
+        ensures counted { λ r. ⌜ IsLines (state-of (now (self .entry))) n r ⌝ }
+    {
+        if n < self.used {
+            Ok(self.nodes[n].lines as usize)
+        } else {
+            Err(TableFault::Missing(n))
+        }
+    }
+
+    fn height_of(&self, n: usize) -> Result<usize, TableFault>
+        requires { ⌜ Sound (state-of (now self)) ⌝ }
+        ensures value { λ r. ⌜ r ≡ told (known (state-of (now (self .entry))) n) (node-at (state-of (now (self .entry))) n .height) (Missing n) ⌝ }
+        ensures longest { λ r. ⌜ IsHeight (state-of (now (self .entry))) n r ⌝ }
+    {
+        if n < self.used {
+            Ok(self.nodes[n].height as usize)
+        } else {
+            Err(TableFault::Missing(n))
+        }
     }
 }

@@ -15,12 +15,12 @@ ghost use mathlib.Core.Path.{_≡_};
 use crate::measures::Measure;
 use crate::memory::Memory;
 use draft::drafts::Draft;
+use kind::shapes::Extra;
 use node::faults::TableFault;
 use node::records::Details;
 use node::records::Node;
 use node::records::Parts;
 use node::records::Up;
-use kind::shapes::Extra;
 
 // How many links shared names take.
 pub(crate) fn shared_count(extra: Extra, idents: usize) -> usize

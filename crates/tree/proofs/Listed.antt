@@ -15,7 +15,7 @@ use Rattle.tree.specs.Walks.{path-of}
 use Rattle.tree.proofs.Order.{Sorted, in-from-mem, mem-from-in, ascending-from-sorted, sorted-append}
 
 -- the lines through children that are numbered from i, f giving the lines of one
-abbrev branches : {N : Type 0} → (N → List (List ℕ)) → ℕ → List N → List (List ℕ)
+abbrev pub branches : {N : Type 0} → (N → List (List ℕ)) → ℕ → List N → List (List ℕ)
 branches f i [] = []
 branches f i (c ∷ cs) = map (λ l. i ∷ l) (f c) ++ branches f (suc i) cs
 
