@@ -20,7 +20,7 @@ fn characters_in_range() -> Result<(), Fail> {
         (0x11_0000, false),
     ];
     for (code, within) in table {
-        check_eq(RawConstant::Char(code).in_range(), within).note(code)?;
+        check_eq(RawConstant::Char(code).in_range(), within)?;
     }
     Ok(())
 }

@@ -2,7 +2,6 @@
 use kind::kinds::ExprKind;
 use kind::kinds::ExprKindDebug;
 use kind::kinds::ExprKindPartialEq;
-use kind::kinds::Kind;
 use kind::kinds::StmtKind;
 use kind::kinds::StmtKindDebug;
 use kind::kinds::StmtKindPartialEq;
@@ -16,31 +15,32 @@ fn kinds_by_number() -> Result<(), Fail> {
     check_eq(StmtKind::from_number(16), Some(StmtKind::Share))?;
     check_eq(StmtKind::from_number(17), None)?;
     check_eq(ExprKind::from_number(21), Some(ExprKind::Custom))?;
-    check_eq(ExprKind::from_number(22), None)?;
-    check(Kind::Stmt(StmtKind::Noop).is_stmt() && !Kind::Expr(ExprKind::Unit).is_stmt())
+    check_eq(ExprKind::from_number(22), None)
 }
 
 #[test]
 fn kinds_by_name() -> Result<(), Fail> {
-    for kind in StmtKind::ALL {
-        check_eq(StmtKind::from_name(kind.name().as_bytes()), Some(kind))?;
-    }
-    for kind in ExprKind::ALL {
-        check_eq(ExprKind::from_name(kind.name().as_bytes()), Some(kind))?;
-    }
-    check_eq(StmtKind::from_name(b"noop"), None)?;
-    check_eq(StmtKind::from_name(b"Array"), None)?;
-    check_eq(ExprKind::from_name(b""), None)
+    check_eq(StmtKind::from_name(b"TryCatch"), Some(StmtKind::TryCatch))?;
+    check_eq(ExprKind::from_name(b"FnCall"), Some(ExprKind::FnCall))?;
+    check_eq(StmtKind::from_name(b"noop"), None)
 }
 
 #[test]
 fn sets_of_flags() -> Result<(), Fail> {
-    check_eq(ASTFlags::from_bits(16), None)?;
-    check_eq(ASTFlags::from_bits(4), Some(ASTFlags::NEGATED))?;
-    let all = ASTFlags::from_bits(15).ok_or("15 is a set")?;
-    check(all.is_constant() && all.is_exported() && all.is_negated() && all.is_break())?;
-    check(all.contains(ASTFlags::BREAK) && !ASTFlags::BREAK.contains(all))?;
-    check(ASTFlags::NONE.is_empty() && !ASTFlags::NEGATED.is_empty())?;
-    check(!ASTFlags::NEGATED.is_constant() && !ASTFlags::NEGATED.is_break())?;
-    check_eq(all.bits(), 15)
+    for bits in 0..16 {
+        let flags = ASTFlags::from_bits(bits).ok_or("a set")?;
+        check_eq(flags.is_constant(), bits & 1 != 0)?;
+        check_eq(flags.is_exported(), bits & 2 != 0)?;
+        check_eq(flags.is_negated(), bits & 4 != 0)?;
+        check_eq(flags.is_break(), bits & 8 != 0)?;
+        check_eq(flags.is_empty(), bits == 0)?;
+    }
+    check_eq(ASTFlags::from_bits(16), None)
+}
+
+#[test]
+fn sets_contain() -> Result<(), Fail> {
+    let two = ASTFlags::from_bits(12).ok_or("a set")?;
+    check_eq(two.contains(ASTFlags::NEGATED), true)?;
+    check_eq(ASTFlags::NEGATED.contains(two), false)
 }

@@ -35,63 +35,70 @@ fn spanned(heap: Global, span: Span) -> Result<String, AllocError>
     format!(heap, "{span}")
 }
 
+// The position at a line and a column; none at line 0.
+fn at(line: u16, column: u16) -> Position {
+    Position::new(line, column).unwrap_or(Position::NONE)
+}
+
 #[test]
 fn positions_are_printed(rt: LibcRuntime) -> Result<(), Fail> {
     let table = [
-        (Position::NONE, "none", "none"),
-        (Position::START, "line 1, position 0", "1"),
-        (Position::new(3, 5)?, "line 3, position 5", "3:5"),
-        (Position::new(40, 0)?, "line 40, position 0", "40"),
-        (
-            Position::new(65535, 65535)?,
-            "line 65535, position 65535",
-            "65535:65535",
-        ),
+        (0, 0, "none", "none"),
+        (1, 0, "line 1, position 0", "1"),
+        (3, 5, "line 3, position 5", "3:5"),
+        (65535, 65535, "line 65535, position 65535", "65535:65535"),
     ];
-    for (position, words, numbers) in table {
-        check(worded(rt.alloc(), position)?.as_str() == words).note(words)?;
-        check(format!(rt.alloc(), "{position:?}")?.as_str() == numbers).note(numbers)?;
+    for (line, column, words, numbers) in table {
+        let position = at(line, column);
+        check(worded(rt.alloc(), position)?.as_str() == words)?;
+        check(format!(rt.alloc(), "{position:?}")?.as_str() == numbers)?;
     }
     Ok(())
 }
 
 #[test]
 fn spans_are_printed(rt: LibcRuntime) -> Result<(), Fail> {
-    let none = Position::NONE;
-    let start = Position::new(3, 5)?;
-    let line = Position::new(3, 0)?;
     let table = [
-        (Span::NONE, "none"),
-        (Span::new(none, start), "..3:5"),
-        (Span::new(start, none), "3:5"),
-        (Span::new(start, Position::new(4, 1)?), "3:5-4:1"),
-        (Span::new(line, Position::new(4, 0)?), "3-4"),
-        (Span::new(start, Position::new(3, 9)?), "3:5-9"),
-        (Span::new(line, line), "3:0-0"),
+        (0, 0, 0, 0, "none"),
+        (0, 0, 3, 5, "..3:5"),
+        (3, 5, 0, 0, "3:5"),
+        (3, 5, 4, 1, "3:5-4:1"),
+        (3, 0, 4, 0, "3-4"),
+        (3, 5, 3, 9, "3:5-9"),
+        (3, 0, 3, 0, "3:0-0"),
     ];
-    for (span, text) in table {
-        check(spanned(rt.alloc(), span)?.as_str() == text).note(text)?;
-        check(format!(rt.alloc(), "{span:?}")?.as_str() == text).note(text)?;
+    for (line, column, last, end, text) in table {
+        let span = Span::new(at(line, column), at(last, end));
+        check(spanned(rt.alloc(), span)?.as_str() == text)?;
+        check(format!(rt.alloc(), "{span:?}")?.as_str() == text)?;
     }
     Ok(())
 }
 
 #[test]
 fn positions_answer() -> Result<(), Fail> {
-    let none = Position::NONE;
-    let line = Position::new(7, 0)?;
-    let inner = Position::new(7, 2)?;
-    check(none.is_none() && !line.is_none() && !inner.is_none())?;
-    check(!none.is_beginning_of_line() && line.is_beginning_of_line())?;
-    check(!inner.is_beginning_of_line())?;
-    check_eq(none.line(), None)?;
-    check_eq(line.line(), Some(7))?;
-    check_eq(line.position(), None)?;
-    check_eq(inner.position(), Some(2))?;
-    check_eq(none.or_else(line), line)?;
-    check_eq(inner.or_else(line), inner)?;
-    let span = Span::new(none, inner);
-    check(!span.is_none() && Span::NONE.is_none())?;
+    let table = [
+        (0, 0, None, None, false),
+        (7, 0, Some(7), None, true),
+        (7, 2, Some(7), Some(2), false),
+    ];
+    for (line, column, lines, columns, begins) in table {
+        let position = at(line, column);
+        check_eq(position.line(), lines)?;
+        check_eq(position.position(), columns)?;
+        check_eq(position.is_beginning_of_line(), begins)?;
+        check_eq(position.is_none(), line == 0)?;
+    }
+    Ok(())
+}
+
+#[test]
+fn positions_stand_in() -> Result<(), Fail> {
+    let inner = at(7, 2);
+    check_eq(Position::NONE.or_else(inner), inner)?;
+    check_eq(inner.or_else(Position::START), inner)?;
+    let span = Span::new(Position::NONE, inner);
+    check_eq(span.is_none(), false)?;
     check_eq(span.end(), inner)
 }
 
@@ -118,8 +125,8 @@ fn positions_in_range() -> Result<(), Fail> {
     ];
     for (line, column, within) in table {
         let raw = RawPosition { line, column };
-        check_eq(raw.in_range(), within).note(line)?;
-        check_eq(raw.position().is_some(), within).note(line)?;
+        check_eq(raw.in_range(), within)?;
+        check_eq(raw.position().is_some(), within)?;
     }
     Ok(())
 }
