@@ -5,7 +5,7 @@ mod counts;
 mod found;
 mod harmless;
 pub mod marks;
-pub mod names;
+mod names;
 mod positions;
 mod purity;
 pub mod questions;

@@ -52,9 +52,8 @@ fn variable_name(details: &Details, non_qualified: bool) -> Option<Run>
     }
 }
 
-/// The name of a variable, as a view of the table's text; none at any other expression, and at a qualified variable
-/// where only unqualified ones are asked for. Fault 2 at an unknown place, fault 5 at a statement.
-pub fn get_variable_name<'t>(
+// The name of a variable, as a view of the table's text.
+pub(crate) fn name_of<'t>(
     table: &'t Table<'_>,
     n: usize,
     non_qualified: bool,

@@ -1,14 +1,18 @@
 //! What is asked of a node beside its marks.
 ghost use Prim.Native.Nat.{ℕ};
 ghost use Rattle.marks.specs.Questions.{has-options, options-of, returns-value, table-options, table-returns-value};
+ghost use Rattle.marks.specs.Names.{table-names};
 ghost use Rattle.marks.specs.Positions.{table-stands, table-starts};
 ghost use Rattle.node.specs.declared.faults.TableFault.{TableFault};
 ghost use Rattle.node.specs.declared.flags.ASTFlags.{ASTFlags};
 ghost use Rattle.kind.specs.declared.kinds.Kind.the-variants.{Expr, Stmt};
 ghost use Rattle.node.specs.declared.positions.Position.{Position};
+ghost use Rattle.node.specs.declared.texts.View.{View};
+ghost use Rattle.std.specs.declared.option.Option.{Option};
 ghost use Rattle.std.specs.declared.result.Result.{Result};
 ghost use mathlib.Core.Bool.{Bool};
 ghost use mathlib.Core.Path.{_≡_};
+use crate::names::name_of;
 use crate::positions::position_of;
 use crate::positions::start_of;
 use kind::kinds::ExprKind;
@@ -18,6 +22,7 @@ use node::faults::TableFault;
 use node::flags::ASTFlags;
 use node::positions::Position;
 use node::records::Details;
+use node::texts::View;
 use table::tables::Table;
 
 fn stmt_has_options(kind: StmtKind) -> bool
@@ -114,6 +119,8 @@ pub trait Questions {
 
     ghost starts: { Self → ℕ → Result Position TableFault → Type 0 };
 
+    ghost names: { Self → ℕ → Bool → Result (Option View) TableFault → Type 0 };
+
     /// The options of a node, none where its kind has none. Fault 2 at an unknown place.
     fn options(&self, n: usize) -> Result<ASTFlags, TableFault>
         ensures { λ r. ⌜ r ≡ optional (now (self .entry)) n ⌝ };
@@ -129,6 +136,16 @@ pub trait Questions {
     /// Where an expression starts: at its left-most expression. Fault 2 at an unknown place, fault 5 at a statement.
     fn start_position(&self, n: usize) -> Result<Position, TableFault>
         ensures { λ r. ⌜ starts (now (self .entry)) n r ⌝ };
+
+    /// The name of a variable, as a view of the text; none at any other expression, and at a qualified variable
+    /// where only unqualified ones are asked for. Fault 2 at an unknown place, fault 5 at a statement, fault 4
+    /// where the name ends beyond the text.
+    fn get_variable_name(
+        &self,
+        n: usize,
+        non_qualified: bool,
+    ) -> Result<Option<View<'_>>, TableFault>
+        ensures { λ r. ⌜ names (now (self .entry)) n «non_qualified» r ⌝ };
 }
 
 pub impl<'a> Questions for Table<'a> as TableQuestions {
@@ -139,6 +156,8 @@ pub impl<'a> Questions for Table<'a> as TableQuestions {
     ghost stands = { table-stands };
 
     ghost starts = { table-starts };
+
+    ghost names = { table-names };
 
     fn options(&self, n: usize) -> Result<ASTFlags, TableFault> {
         Ok(options_of(&self.node(n)?.details))
@@ -161,5 +180,13 @@ pub impl<'a> Questions for Table<'a> as TableQuestions {
             Kind::Stmt(_) => Err(TableFault::Misfit(n)),
             Kind::Expr(_) => Ok(start_of(self, n)),
         }
+    }
+
+    fn get_variable_name(
+        &self,
+        n: usize,
+        non_qualified: bool,
+    ) -> Result<Option<View<'_>>, TableFault> {
+        name_of(self, n, non_qualified)
     }
 }
