@@ -100,8 +100,9 @@ pub struct Shape {
     pub position: bool,
 }
 
+// Rows of the table, made column by column.
 impl Shape {
-    // A shape with a position and so many expressions, and nothing else.
+    // So many expressions and a position, and nothing else.
     fn of(head: Head) -> Shape
         ensures { λ r. ⌜ r ≡ of head ⌝ }
     {

@@ -97,7 +97,7 @@ impl Position {
         if self.is_none() { pos } else { self }
     }
 
-    /// The same position, to be printed as `Debug` prints it.
+    /// The same position, for `Display` to print as `Debug` does.
     pub fn brief(self) -> Brief
         ensures { λ r. ⌜ r ≡ record { 0 = self } ⌝ }
     {
@@ -154,7 +154,7 @@ pub impl fmt::Display for Position as PositionDisplay {
     }
 }
 
-/// A position printed as `Debug` prints it, so that the text can be told from it.
+/// A position that `Display` prints as `Debug` does: a contract can speak of the one, and not of the other.
 #[derive(Clone, Copy)]
 pub struct Brief(pub Position);
 
