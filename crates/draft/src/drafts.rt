@@ -154,7 +154,7 @@ impl Lying for RawConstant {
 
 // In range, where it is given.
 fn if_in_range<R: Ranged + Drop>(given: Option<R>) -> bool
-    ensures { result ≡ if_given ranged given }
+    ensures { result ≡ if_given R.ranged given }
 {
     match given {
         Some(x) => x.in_range(),
@@ -164,7 +164,7 @@ fn if_in_range<R: Ranged + Drop>(given: Option<R>) -> bool
 
 // Within a text of this length, where it is given.
 fn if_within<L: Lying + Drop>(given: Option<L>, text: usize) -> bool
-    ensures { result ≡ if_given (lies text) given }
+    ensures { result ≡ if_given (L.lies text) given }
 {
     match given {
         Some(x) => x.within(text),

@@ -16,7 +16,7 @@ pub trait Test<X> {
 
 /// Whether every element passes a test.
 pub fn every<X: Copy, T: Test<X>>(test: &T, xs: &[X]) -> bool
-    ensures { result ≡ all (passes test.now) xs.now }
+    ensures { result ≡ all (T.passes test.now) xs.now }
 {
     for x in xs {
         if !test.test(*x) {

@@ -1,5 +1,5 @@
 //! The kinds of statements and expressions, numbered from 0 in the order of the Rust's enums.
-ghost use Rattle.std.specs.Prelude.{◌≡◌, ℕ, List, if◌then◌else◌, Some, None, Decides, nat_lt};
+ghost use Rattle.std.specs.Prelude.{◌≡◌, ◌==◌, ℕ, List, if◌then◌else◌, Some, None, Decides, nat_lt};
 ghost use Rattle.kind.specs.Kinds.{expr_at, expr_name, expr_named, expr_number, is_stmt, kind_name, named, stmt_at, stmt_name, stmt_named, stmt_number};
 ghost use Rattle.std.specs.Cmp.Rules.{comparing};
 ghost use Rattle.std.proofs.Common.{rules};
@@ -140,11 +140,14 @@ impl StmtKind {
 }
 
 impl PartialEq for StmtKind {
-    ghost equals = { λ a b r. Decides r (a ≡ b) };
+    ghost eq = { λ a b. stmt_number a == stmt_number b };
 
     ghost laws = { Keys.partial_equiv_from_equiv (Prim.search (comparing, rules)) };
 
-    fn eq(&self, other: &StmtKind) -> bool {
+    fn eq(&self, other: &StmtKind) -> bool
+        ensures answer { result ≡ (stmt_number self.now == stmt_number other.now) }
+        ensures decides { Decides result (self.now ≡ other.now) }
+    {
         self.number() == other.number()
     }
 }
@@ -323,11 +326,14 @@ impl ExprKind {
 }
 
 impl PartialEq for ExprKind {
-    ghost equals = { λ a b r. Decides r (a ≡ b) };
+    ghost eq = { λ a b. expr_number a == expr_number b };
 
     ghost laws = { Keys.partial_equiv_from_equiv (Prim.search (comparing, rules)) };
 
-    fn eq(&self, other: &ExprKind) -> bool {
+    fn eq(&self, other: &ExprKind) -> bool
+        ensures answer { result ≡ (expr_number self.now == expr_number other.now) }
+        ensures decides { Decides result (self.now ≡ other.now) }
+    {
         self.number() == other.number()
     }
 }
@@ -395,7 +401,7 @@ trait Named {
 
 // The first of some kinds that has this name.
 fn find<K: Named + Copy>(kinds: &[K], name: &[u8]) -> Option<K>
-    ensures { result ≡ named label kinds.now name.now }
+    ensures { result ≡ named K.label kinds.now name.now }
 {
     for kind in kinds {
         if kind.label().as_bytes() == name {

@@ -1,4 +1,6 @@
 //! Marks: whether an expression is constant, and whether a node is pure.
+#![tactic(auto)]
+
 mod asks;
 mod constants;
 mod counts;

@@ -15,7 +15,7 @@ use kind::kinds::{ExprKind, Kind, StmtKind};
 use table::tables::Table;
 
 // Whether a known node is pure.
-#[cycle(expr_is_pure_harmless_is_pure_node_is_pure_stmt_is_pure)]
+#[cycle(purity)]
 pub(crate) fn node_is_pure(table: &Table<'_>, n: usize, found: &mut Found) -> bool
     requires known { known (table_state table.now) n ≡ true }
     requires found { AllPure (table_state table.now) found.old.marks }
@@ -29,7 +29,7 @@ pub(crate) fn node_is_pure(table: &Table<'_>, n: usize, found: &mut Found) -> bo
 }
 
 // Whether a statement of this kind is pure.
-#[cycle(expr_is_pure_harmless_is_pure_node_is_pure_stmt_is_pure)]
+#[cycle(purity)]
 fn stmt_is_pure(table: &Table<'_>, n: usize, kind: StmtKind, found: &mut Found) -> bool
     requires known { known (table_state table.now) n ≡ true }
     requires kind { (node_at (table_state table.now) n).details.kind ≡ Stmt kind }
@@ -45,7 +45,7 @@ fn stmt_is_pure(table: &Table<'_>, n: usize, kind: StmtKind, found: &mut Found) 
 }
 
 // Whether an expression of this kind is pure.
-#[cycle(expr_is_pure_harmless_is_pure_node_is_pure_stmt_is_pure)]
+#[cycle(purity)]
 fn expr_is_pure(table: &Table<'_>, n: usize, kind: ExprKind, found: &mut Found) -> bool
     requires known { known (table_state table.now) n ≡ true }
     requires kind { (node_at (table_state table.now) n).details.kind ≡ Expr kind }
@@ -61,7 +61,7 @@ fn expr_is_pure(table: &Table<'_>, n: usize, kind: ExprKind, found: &mut Found) 
 }
 
 // Whether a node that does nothing by itself is pure: whether its counted children are. It is asked once, then marked.
-#[cycle(expr_is_pure_harmless_is_pure_node_is_pure_stmt_is_pure)]
+#[cycle(purity)]
 fn harmless_is_pure(table: &Table<'_>, n: usize, found: &mut Found) -> bool
     requires known { known (table_state table.now) n ≡ true }
     requires harmless { harmless (table_state table.now) n ≡ true }

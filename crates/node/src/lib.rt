@@ -1,4 +1,6 @@
 //! What a node of a script's tree is made of: plain data and pure functions.
+#![tactic(auto)]
+
 pub mod faults;
 pub mod flags;
 pub mod positions;

@@ -1,4 +1,6 @@
 //! Tests of kinds, positions, texts, drafts and makers.
+#![tactic(auto)]
+
 #[cfg(test)]
 mod drafts;
 #[cfg(test)]

@@ -1,4 +1,6 @@
 //! Outlines: entries nested by indentation, held as a tree of their own.
+#![tactic(auto)]
+
 mod building;
 pub mod drafting;
 pub mod drafts;

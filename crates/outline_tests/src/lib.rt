@@ -1,4 +1,6 @@
 //! Outlines by example: what is answered, what is refused, and with which words.
+#![tactic(auto)]
+
 #[cfg(test)]
 mod tests {
     use outline::drafts::Draft;

@@ -148,12 +148,12 @@ impl<'a> Named for Laid<'a> {
 
 // The arm that a node refers to at a number, the default behind all references.
 fn reference<N: Named>(named: &N, details: &Details, parts: &Parts, k: usize) -> usize
-    requires reach { kids parts.now + references parts.now ≤ reach named.now }
-    requires arms { (j : ℕ) → j < length (referred (names named.now) details.now parts.now) → slice_index (referred (names named.now) details.now parts.now) j < parts.now.arms }
+    requires reach { kids parts.now + references parts.now ≤ N.reach named.now }
+    requires arms { (j : ℕ) → j < length (referred (N.names named.now) details.now parts.now) → slice_index (referred (N.names named.now) details.now parts.now) j < parts.now.arms }
     requires within { k < arm_count details.now parts.now }
     ensures bound { result ≤ 400000 }
     ensures there { result < parts.now.arms }
-    ensures value { result ≡ slice_index (referred (names named.now) details.now parts.now) k }
+    ensures value { result ≡ slice_index (referred (N.names named.now) details.now parts.now) k }
 {
     if k < reference_count(parts) {
         named.name_at(kid_count(parts) + k)
@@ -164,10 +164,10 @@ fn reference<N: Named>(named: &N, details: &Details, parts: &Parts, k: usize) ->
 
 // The child of a node at a number, in walk order.
 pub(crate) fn walked_child<N: Named>(named: &N, details: &Details, parts: &Parts, i: usize) -> usize
-    requires reach { kids parts.now + references parts.now ≤ reach named.now }
-    requires arms { (j : ℕ) → j < length (referred (names named.now) details.now parts.now) → slice_index (referred (names named.now) details.now parts.now) j < parts.now.arms }
+    requires reach { kids parts.now + references parts.now ≤ N.reach named.now }
+    requires arms { (j : ℕ) → j < length (referred (N.names named.now) details.now parts.now) → slice_index (referred (N.names named.now) details.now parts.now) j < parts.now.arms }
     requires within { i < child_count details.now parts.now }
-    ensures { (d : ℕ) → result ≡ slice_index_or (walked (names named.now) details.now parts.now) i d }
+    ensures { (d : ℕ) → result ≡ slice_index_or (walked (N.names named.now) details.now parts.now) i d }
 {
     let blocks = details.kind.shape().blocks;
     let direct = run_count(blocks, parts);

@@ -1,4 +1,6 @@
 //! The script table: nodes of a script's tree in lent memory.
+#![tactic(auto)]
+
 mod accepts;
 mod checks;
 mod children;

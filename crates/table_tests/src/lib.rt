@@ -1,4 +1,6 @@
 //! Tests of the script table and of the marks: edges of the memory, of the height, and the order of refusals.
+#![tactic(auto)]
+
 #[cfg(test)]
 mod memory;
 #[cfg(test)]

@@ -13,8 +13,8 @@ use crate::walks::{Outcome, WalkFault, first_unknown, show};
 
 // Whether a known name is at most so high.
 fn low_enough<T: Tree>(tree: &T, n: T::Name, capacity: usize) -> bool
-    requires { known tree.now n ≡ true }
-    ensures { result ≡ nat_le (heights tree.now n) capacity }
+    requires { T.known tree.now n ≡ true }
+    ensures { result ≡ nat_le (T.heights tree.now n) capacity }
 {
     tree.height(n).unwrap() <= capacity
 }
@@ -25,8 +25,8 @@ fn first_high<T: Tree>(
     roots: &[T::Name],
     capacity: usize,
 ) -> Option<WalkFault<T::Name, T::Fault>>
-    requires { (i : ℕ) (d : T.Name) → i < length roots.now → known tree.now (slice_index_or roots.now i d) ≡ true }
-    ensures { result ≡ first_high (heights tree.now) capacity roots.now }
+    requires { (i : ℕ) (d : T.Name) → i < length roots.now → T.known tree.now (slice_index_or roots.now i d) ≡ true }
+    ensures { result ≡ first_high (T.heights tree.now) capacity roots.now }
 {
     for n in roots {
         if !low_enough(tree, *n, capacity) {
@@ -42,7 +42,7 @@ fn refused_each<T: Tree>(
     roots: &[T::Name],
     path: &PathStack<'_, T::Name>,
 ) -> Option<WalkFault<T::Name, T::Fault>>
-    ensures { result ≡ refusal_each (known tree.now) (heights tree.now) (missing tree.now) roots.now (capacity_of path.now) }
+    ensures { result ≡ refusal_each (T.known tree.now) (T.heights tree.now) (T.missing tree.now) roots.now (capacity_of path.now) }
 {
     if let Some(fault) = first_unknown(tree, roots) {
         return Some(WalkFault::Tree(fault));
@@ -57,10 +57,10 @@ fn show_each<T: Tree, V: Visitor<T>>(
     path: &mut PathStack<'_, T::Name>,
     visitor: &mut V,
 ) -> bool
-    requires known { (i : ℕ) (d : T.Name) → i < length roots.now → known tree.now (slice_index_or roots.now i d) ≡ true }
-    requires room { (i : ℕ) (d : T.Name) → i < length roots.now → heights tree.now (slice_index_or roots.now i d) ≤ capacity_of path.old }
+    requires known { (i : ℕ) (d : T.Name) → i < length roots.now → T.known tree.now (slice_index_or roots.now i d) ≡ true }
+    requires room { (i : ℕ) (d : T.Name) → i < length roots.now → T.heights tree.now (slice_index_or roots.now i d) ≤ capacity_of path.old }
     requires empty { names_of path.old ≡ [] }
-    ensures ran { run (λ s q. next s tree.now q) (λ s q. accepts s tree.now q) visitor.old (flat_map (shown_paths (children tree.now) 64 []) roots.now) ≡ (visitor.new, (if result then None else Some (names_of path.new))) }
+    ensures ran { run (λ s q. V.next s tree.now q) (λ s q. V.accepts s tree.now q) visitor.old (flat_map (shown_paths (T.children tree.now) 64 []) roots.now) ≡ (visitor.new, (if result then None else Some (names_of path.new))) }
     ensures back { result ≡ true → names_of path.new ≡ [] }
     ensures memory { SameMemory path.old path.new }
 {
@@ -79,8 +79,8 @@ fn show_all<T: Tree, V: Visitor<T>>(
     path: &mut PathStack<'_, T::Name>,
     visitor: &mut V,
 ) -> Outcome
-    requires { refusal_each (known tree.now) (heights tree.now) (missing tree.now) roots.now (capacity_of path.old) ≡ None }
-    ensures law { (shown : List (List ℕ)) × WalkLawOf (FollowEach (children tree.now) roots.now) (along_each (children tree.now) roots.now) (λ s q. next s tree.now q) (λ s q. accepts s tree.now q) [] visitor.old result (names_of path.new) visitor.new shown }
+    requires { refusal_each (T.known tree.now) (T.heights tree.now) (T.missing tree.now) roots.now (capacity_of path.old) ≡ None }
+    ensures law { (shown : List (List ℕ)) × WalkLawOf (FollowEach (T.children tree.now) roots.now) (along_each (T.children tree.now) roots.now) (λ s q. V.next s tree.now q) (λ s q. V.accepts s tree.now q) [] visitor.old result (names_of path.new) visitor.new shown }
     ensures memory { SameMemory path.old path.new }
 {
     path.truncate(0);
@@ -98,7 +98,7 @@ pub fn walk_each<T: Tree, V: Visitor<T>>(
     path: &mut PathStack<'_, T::Name>,
     visitor: &mut V,
 ) -> Result<Outcome, WalkFault<T::Name, T::Fault>>
-    ensures law { WalkedEach (known tree.now) (heights tree.now) (children tree.now) (missing tree.now) (λ s q. next s tree.now q) (λ s q. accepts s tree.now q) roots.now path.old visitor.old result path.new visitor.new }
+    ensures law { WalkedEach (T.known tree.now) (T.heights tree.now) (T.children tree.now) (T.missing tree.now) (λ s q. V.next s tree.now q) (λ s q. V.accepts s tree.now q) roots.now path.old visitor.old result path.new visitor.new }
     ensures memory { SameMemory path.old path.new }
 {
     if let Some(fault) = refused_each(tree, roots, path) {

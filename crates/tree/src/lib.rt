@@ -2,6 +2,8 @@
 //!
 //! Everything above stands on the traits of this crate alone: a tree is what answers the four
 //! questions of `Tree`, and a visitor what follows the rule that it states.
+#![tactic(auto)]
+
 pub mod faults;
 pub mod forests;
 pub mod limits;

@@ -47,7 +47,7 @@ pub fn count_lines<T: Tree>(
     start: T::Name,
     path: &mut PathStack<'_, T::Name>,
 ) -> Result<u16, WalkFault<T::Name, T::Fault>>
-    ensures count { Counted (known tree.now) (heights tree.now) (children tree.now) (missing tree.now) start path.old result path.new }
+    ensures count { Counted (T.known tree.now) (T.heights tree.now) (T.children tree.now) (T.missing tree.now) start path.old result path.new }
     ensures memory { SameMemory path.old path.new }
 {
     let mut tally = Tally::new();

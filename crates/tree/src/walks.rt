@@ -40,9 +40,9 @@ pub enum WalkFault<N, F> {
 }
 
 impl<N, F: Fault> Fault for WalkFault<N, F> {
-    ghost numbered = { walk_number numbered };
+    ghost numbered = { walk_number F.numbered };
 
-    ghost found = { walk_layer found };
+    ghost found = { walk_layer F.found };
 
     fn number(&self) -> u8 {
         match self {
@@ -61,7 +61,7 @@ impl<N, F: Fault> Fault for WalkFault<N, F> {
 
 // The fault at the first name that the tree does not know.
 pub(crate) fn first_unknown<T: Tree>(tree: &T, names: &[T::Name]) -> Option<T::Fault>
-    ensures { result ≡ first_missing (known tree.now) (missing tree.now) names.now }
+    ensures { result ≡ first_missing (T.known tree.now) (T.missing tree.now) names.now }
 {
     for n in names {
         if let Err(fault) = tree.height(*n) {
@@ -78,9 +78,9 @@ pub(crate) fn show<T: Tree, V: Visitor<T>>(
     path: &mut PathStack<'_, T::Name>,
     visitor: &mut V,
 ) -> bool
-    requires known { known tree.now n ≡ true }
-    requires room { path.old.len + heights tree.now n ≤ capacity_of path.old }
-    ensures ran { (h : ℕ) → heights tree.now n ≤ h → run (λ s q. next s tree.now q) (λ s q. accepts s tree.now q) visitor.old (shown_paths (children tree.now) h (names_of path.old) n) ≡ (visitor.new, (if result then None else Some (names_of path.new))) }
+    requires known { T.known tree.now n ≡ true }
+    requires room { path.old.len + T.heights tree.now n ≤ capacity_of path.old }
+    ensures ran { (h : ℕ) → T.heights tree.now n ≤ h → run (λ s q. V.next s tree.now q) (λ s q. V.accepts s tree.now q) visitor.old (shown_paths (T.children tree.now) h (names_of path.old) n) ≡ (visitor.new, (if result then None else Some (names_of path.new))) }
     ensures back { result ≡ true → names_of path.new ≡ names_of path.old }
     ensures memory { SameMemory path.old path.new }
 {
@@ -106,9 +106,9 @@ fn show_lines<T: Tree, V: Visitor<T>>(
     path: &mut PathStack<'_, T::Name>,
     visitor: &mut V,
 ) -> Outcome
-    requires known { known tree.now start ≡ true }
-    requires room { path.old.len + heights tree.now start ≤ capacity_of path.old }
-    ensures law { (shown : List (List ℕ)) × WalkLaw (children tree.now) (λ s q. next s tree.now q) (λ s q. accepts s tree.now q) start (names_of path.old) visitor.old result (names_of path.new) visitor.new shown }
+    requires known { T.known tree.now start ≡ true }
+    requires room { path.old.len + T.heights tree.now start ≤ capacity_of path.old }
+    ensures law { (shown : List (List ℕ)) × WalkLaw (T.children tree.now) (λ s q. V.next s tree.now q) (λ s q. V.accepts s tree.now q) start (names_of path.old) visitor.old result (names_of path.new) visitor.new shown }
     ensures memory { SameMemory path.old path.new }
 {
     let all = show(tree, start, path, visitor);
@@ -121,7 +121,7 @@ fn refused<T: Tree>(
     start: T::Name,
     path: &PathStack<'_, T::Name>,
 ) -> Option<WalkFault<T::Name, T::Fault>>
-    ensures { result ≡ refusal (known tree.now) (heights tree.now) (missing tree.now) start path.now }
+    ensures { result ≡ refusal (T.known tree.now) (T.heights tree.now) (T.missing tree.now) start path.now }
 {
     let height = match tree.height(start) {
         Ok(height) => height,
@@ -146,7 +146,7 @@ pub fn walk<T: Tree, V: Visitor<T>>(
     path: &mut PathStack<'_, T::Name>,
     visitor: &mut V,
 ) -> Result<Outcome, WalkFault<T::Name, T::Fault>>
-    ensures law { Walked (known tree.now) (heights tree.now) (children tree.now) (missing tree.now) (λ s q. next s tree.now q) (λ s q. accepts s tree.now q) start path.old visitor.old result path.new visitor.new }
+    ensures law { Walked (T.known tree.now) (T.heights tree.now) (T.children tree.now) (T.missing tree.now) (λ s q. V.next s tree.now q) (λ s q. V.accepts s tree.now q) start path.old visitor.old result path.new visitor.new }
     ensures memory { SameMemory path.old path.new }
 {
     if let Some(fault) = refused(tree, start, path) {

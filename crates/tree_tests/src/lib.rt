@@ -1,4 +1,6 @@
 //! Tests of paths, walks and the tally, on a tree that is computed and stored nowhere.
+#![tactic(auto)]
+
 pub mod halts;
 pub mod ladders;
 #[cfg(test)]

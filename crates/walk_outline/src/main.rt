@@ -1,5 +1,7 @@
 //! Reads an outline from standard input and prints the path of each line of descent in it; with a word, the
 //! path of the first that ends at an entry with that text.
+#![tactic(auto)]
+
 mod printing;
 mod reading;
 mod walking;

@@ -10,8 +10,8 @@ use Rattle.draft.proofs.keys.distinct_by_chains.Goals as goal
 pub loop-i-init : goal.loop-i-init
 loop-i-init c = (refl, refl, (λ b low. get_or-replicate 1024 b 0 0 low), (λ j low. absurd (omega arith)), (λ j k less low. absurd (omega arith)))
 
-pub on-chain-requires : goal.on-chain-requires
-on-chain-requires c =
+pub on_chain-requires : goal.on_chain-requires
+on_chain-requires c =
     let text = c.args.text.now in
     let keys = c.args.keys.now in
     let head : get_or c.loop-i.heads c.bucket-b.result 0 ≡ last_in (bucket_at text keys) c.bucket-b.result c.loop-i.i = c.loop-i.invariant.2 c.bucket-b.result c.bucket-b.ensures.bound in
@@ -23,10 +23,10 @@ on-chain-requires c =
       bucket = λ j e. last_bucket (bucket_at text keys) c.bucket-b.result c.loop-i.i j (sym head ∙ e) ∙ c.bucket-b.ensures.value;
     }
 
-pub returns-then-on-chain : goal.returns-then-on-chain
-returns-then-on-chain c =
+pub returns-then-on_chain : goal.returns-then-on_chain
+returns-then-on_chain c =
     let i = c.loop-i.i in
-    let twice = c.on-chain.ensures.0 c.if-on-chain.true in
+    let twice = c.on_chain.ensures.0 c.if-on_chain.true in
     let head = c.loop-i.invariant.2 c.bucket-b.result c.bucket-b.ensures.bound in
     let low : last_in (bucket_at c.args.text.now c.args.keys.now) c.bucket-b.result c.loop-i.i ≤ c.loop-i.i = last_le _ _ c.loop-i.i in (
       (λ e. absurd (false≢true e)),
@@ -42,7 +42,7 @@ loop-i-preserved c =
     let spot = c.bucket-b.result in
     let its : spot ≡ bucket_at text keys i = c.bucket-b.ensures.value ∙ ap bucket_of c.bytes-bytes.ensures in
     let head = c.loop-i.invariant.2 spot c.bucket-b.ensures.bound in
-    let fresh = not_before text keys bytes i _ (head ∙ ap (λ b. last_in (bucket_at text keys) b i) c.bucket-b.ensures.value) (not_from_Decides _ c.on-chain.ensures c.if-on-chain.false) in (
+    let fresh = not_before text keys bytes i _ (head ∙ ap (λ b. last_in (bucket_at text keys) b i) c.bucket-b.ensures.value) (not_from_Decides _ c.on_chain.ensures c.if-on_chain.false) in (
       length-set _ _ _ ∙ c.loop-i.invariant.0,
       length-set _ _ _ ∙ c.loop-i.invariant.1,
       (λ b low. heads_more (bucket_at text keys) i spot its c.loop-i.heads (omega (arith, c.bucket-b.ensures.bound)) b (c.loop-i.invariant.2 b low)),

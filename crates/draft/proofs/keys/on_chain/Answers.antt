@@ -25,7 +25,7 @@ loop-at-preserved c =
       chain_stays text keys bytes j _ here goes,
       (λ k low high same.
           ⊎_elim
-          (λ e. not_from_Decides _ c.has-bytes.ensures c.if-has-bytes.false (ap (key_at text keys) (sym e) ∙ same))
+          (λ e. not_from_Decides _ c.has_bytes.ensures c.if-has_bytes.false (ap (key_at text keys) (sym e) ∙ same))
           (⊎_elim (λ less. chain_skips text keys bytes j _ here goes k low less same) (λ more. c.loop-at.invariant.2 k (omega arith) high same))
           (cases_order k j)),
     )

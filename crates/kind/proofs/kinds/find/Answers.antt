@@ -7,13 +7,13 @@ use Rattle.std.proofs.lemmas.Bool.Decides.{Decides-eqb}
 pub returns-then-eq : goal.returns-then-eq
 returns-then-eq g c =
     name_found g.K.Named.label c.args.kinds.now c.args.name.now c.loop-kind.kind-index c.kind-item.result c.loop-kind-test.true c.kind-item.is
-    c.as-bytes.result.now (c.as-bytes.ensures.value ∙ c.label.ensures) c.eq.result (slice_eq-Decides Decides-eqb _ _ _ c.eq.ensures) c.if-eq.true
+    c.as_bytes.result.now (c.as_bytes.ensures.value ∙ c.label.ensures) c.eq.result (slice_eq-Decides Decides-eqb _ _ _ c.eq.ensures) c.if-eq.true
     ∙ c.loop-kind.invariant
 
 pub loop-kind-preserved : goal.loop-kind-preserved
 loop-kind-preserved g c =
     name_passed g.K.Named.label c.args.kinds.now c.args.name.now c.loop-kind.kind-index c.kind-item.result c.loop-kind-test.true c.kind-item.is
-    c.as-bytes.result.now (c.as-bytes.ensures.value ∙ c.label.ensures) c.eq.result (slice_eq-Decides Decides-eqb _ _ _ c.eq.ensures) c.if-eq.false
+    c.as_bytes.result.now (c.as_bytes.ensures.value ∙ c.label.ensures) c.eq.result (slice_eq-Decides Decides-eqb _ _ _ c.eq.ensures) c.if-eq.false
     ∙ c.loop-kind.invariant
 
 pub returns : goal.returns

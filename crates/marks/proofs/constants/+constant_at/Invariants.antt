@@ -4,8 +4,8 @@ use Rattle.table.specs.State.{node_at, children}
 use Rattle.marks.specs.Marks.{IsConstant}
 use Rattle.marks.proofs.constants.+constant_at.Given as goal
 
-abbrev pub decreases-constant-at : goal.decreases-constant-at
-decreases-constant-at l = (node_at (table_state l.table.now) l.n).height
+abbrev pub decreases-constant_at : goal.decreases-constant_at
+decreases-constant_at l = (node_at (table_state l.table.now) l.n).height
 
 -- the children passed are constant
 abbrev pub invariant-loop-i : goal.invariant-loop-i

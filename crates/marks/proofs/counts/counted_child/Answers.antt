@@ -16,38 +16,38 @@ returns-then-i-run c =
     let n = c.args.n in
     let i = c.args.i in
     let node = node_at s n in
-    let run : c.counted-run-run.result.count ≡ run_count (counted_blocks node.details.kind) node.parts =
-    c.counted-run-run.ensures.count ∙ ap (λ (x : Node). run_count (counted_blocks x.details.kind) x.parts) c.node-at-node.ensures in
-    let from : c.counted-run-run.result.from ≡ run_from (counted_blocks node.details.kind) node.parts =
-    c.counted-run-run.ensures.from ∙ ap (λ (x : Node). run_from (counted_blocks x.details.kind) x.parts) c.node-at-node.ensures in
+    let run : c.counted_run-run.result.count ≡ run_count (counted_blocks node.details.kind) node.parts =
+    c.counted_run-run.ensures.count ∙ ap (λ (x : Node). run_count (counted_blocks x.details.kind) x.parts) c.node_at-node.ensures in
+    let from : c.counted_run-run.result.from ≡ run_from (counted_blocks node.details.kind) node.parts =
+    c.counted_run-run.ensures.from ∙ ap (λ (x : Node). run_from (counted_blocks x.details.kind) x.parts) c.node_at-node.ensures in
     let less : i < run_count (counted_blocks node.details.kind) node.parts = omega (arith, run, c.if-i-run.true) in
-    let is = c.kid-at.ensures ∙ ap (λ x. kid s n (x + i)) from ∙ sym (counted_direct (links_of s node) node.details node.parts i less) in
-    let all = child_answer c.args.table.now n i c.kid-at.result c.requires.known c.requires.within is in
+    let is = c.kid_at.ensures ∙ ap (λ x. kid s n (x + i)) from ∙ sym (counted_direct (links_of s node) node.details node.parts i less) in
+    let all = child_answer c.args.table.now n i c.kid_at.result c.requires.known c.requires.within is in
     record { value = all.0; known = all.1; lower = all.2 }
 
-pub in-arm-requires : goal.in-arm-requires
-in-arm-requires c =
+pub in_arm-requires : goal.in_arm-requires
+in_arm-requires c =
     let t = c.args.table.now in
     let s = table_state t in
     let n = c.args.n in
     let node = node_at s n in
-    let refs : c.reference-count-references.result ≡ references node.parts = c.reference-count-references.ensures.value ∙ ap (λ (x : Node). references x.parts) c.node-at-node.ensures in
-    let k = (c.args.i - c.counted-run-run.result.count) / 2 in
+    let refs : c.reference_count-references.result ≡ references node.parts = c.reference_count-references.ensures.value ∙ ap (λ (x : Node). references x.parts) c.node_at-node.ensures in
+    let k = (c.args.i - c.counted_run-run.result.count) / 2 in
     let there = reference_there s n t.arms_there (ltb-true n s.used c.requires.known) k (omega (arith, refs)) in
-    record { known = c.requires.known; there = omega (arith, there, c.reference-at.ensures); side = omega arith }
+    record { known = c.requires.known; there = omega (arith, there, c.reference_at.ensures); side = omega arith }
 
-pub in-arm-requires-else-past-references : goal.in-arm-requires-else-past-references
-in-arm-requires-else-past-references c =
+pub in_arm-requires-else-past-references : goal.in_arm-requires-else-past-references
+in_arm-requires-else-past-references c =
     let t = c.args.table.now in
     let s = table_state t in
     let n = c.args.n in
     let node = node_at s n in
-    let run : c.counted-run-run.result.count ≡ run_count (counted_blocks node.details.kind) node.parts =
-    c.counted-run-run.ensures.count ∙ ap (λ (x : Node). run_count (counted_blocks x.details.kind) x.parts) c.node-at-node.ensures in
-    let refs : c.reference-count-references.result ≡ references node.parts = c.reference-count-references.ensures.value ∙ ap (λ (x : Node). references x.parts) c.node-at-node.ensures in
+    let run : c.counted_run-run.result.count ≡ run_count (counted_blocks node.details.kind) node.parts =
+    c.counted_run-run.ensures.count ∙ ap (λ (x : Node). run_count (counted_blocks x.details.kind) x.parts) c.node_at-node.ensures in
+    let refs : c.reference_count-references.result ≡ references node.parts = c.reference_count-references.ensures.value ∙ ap (λ (x : Node). references x.parts) c.node_at-node.ensures in
     let some : 0 < length (default_of node.details.second) = omega (arith, run, refs, c.requires.within, length_counted (links_of s node) node.details node.parts) in
     let there = default_there s n t.arms_there (ltb-true n s.used c.requires.known) some in
-    let is = c.default-arm.ensures.value ∙ ap (λ (x : Node). get_or (default_of x.details.second) 0 0) c.node-at-node.ensures in
+    let is = c.default_arm.ensures.value ∙ ap (λ (x : Node). get_or (default_of x.details.second) 0 0) c.node_at-node.ensures in
     record { known = c.requires.known; there = omega (arith, there, is); side = omega arith }
 
 pub returns-then-past-references : goal.returns-then-past-references
@@ -57,18 +57,18 @@ returns-then-past-references c =
     let i = c.args.i in
     let node = node_at s n in
     let direct = run_count (counted_blocks node.details.kind) node.parts in
-    let run : c.counted-run-run.result.count ≡ direct =
-    c.counted-run-run.ensures.count ∙ ap (λ (x : Node). run_count (counted_blocks x.details.kind) x.parts) c.node-at-node.ensures in
-    let refs : c.reference-count-references.result ≡ references node.parts = c.reference-count-references.ensures.value ∙ ap (λ (x : Node). references x.parts) c.node-at-node.ensures in
+    let run : c.counted_run-run.result.count ≡ direct =
+    c.counted_run-run.ensures.count ∙ ap (λ (x : Node). run_count (counted_blocks x.details.kind) x.parts) c.node_at-node.ensures in
+    let refs : c.reference_count-references.result ≡ references node.parts = c.reference_count-references.ensures.value ∙ ap (λ (x : Node). references x.parts) c.node_at-node.ensures in
     let ge : direct ≤ i = omega (arith, run, c.if-i-run.false) in
     let lt : i - direct < references node.parts + references node.parts = omega (arith, run, refs) in
-    let arm = c.reference-at.ensures in
+    let arm = c.reference_at.ensures in
     let is =
-    c.in-arm.ensures
-    ∙ ap (λ x. kid s n (arms_from node.parts + x + x + (i - c.counted-run-run.result.count) % 2)) arm
+    c.in_arm.ensures
+    ∙ ap (λ x. kid s n (arms_from node.parts + x + x + (i - c.counted_run-run.result.count) % 2)) arm
     ∙ ap (λ x. kid s n (arms_from node.parts + reference_at s n ((i - x) / 2) + reference_at s n ((i - x) / 2) + (i - x) % 2)) run
     ∙ sym (counted_arm (links_of s node) node.details node.parts i ge lt) in
-    let all = child_answer c.args.table.now n i c.in-arm.result c.requires.known c.requires.within is in
+    let all = child_answer c.args.table.now n i c.in_arm.result c.requires.known c.requires.within is in
     record { value = all.0; known = all.1; lower = all.2 }
 
 pub returns-else-past-references : goal.returns-else-past-references
@@ -78,16 +78,16 @@ returns-else-past-references c =
     let i = c.args.i in
     let node = node_at s n in
     let direct = run_count (counted_blocks node.details.kind) node.parts in
-    let run : c.counted-run-run.result.count ≡ direct =
-    c.counted-run-run.ensures.count ∙ ap (λ (x : Node). run_count (counted_blocks x.details.kind) x.parts) c.node-at-node.ensures in
-    let refs : c.reference-count-references.result ≡ references node.parts = c.reference-count-references.ensures.value ∙ ap (λ (x : Node). references x.parts) c.node-at-node.ensures in
+    let run : c.counted_run-run.result.count ≡ direct =
+    c.counted_run-run.ensures.count ∙ ap (λ (x : Node). run_count (counted_blocks x.details.kind) x.parts) c.node_at-node.ensures in
+    let refs : c.reference_count-references.result ≡ references node.parts = c.reference_count-references.ensures.value ∙ ap (λ (x : Node). references x.parts) c.node_at-node.ensures in
     let ge : direct ≤ i = omega (arith, run, c.if-i-run.false) in
     let more : references node.parts + references node.parts ≤ i - direct = omega (arith, run, refs) in
     let within : i < counted_count node.details node.parts = omega (arith, c.requires.within, length_counted (links_of s node) node.details node.parts) in
-    let arm = c.default-arm.ensures.value ∙ ap (λ (x : Node). get_or (default_of x.details.second) 0 0) c.node-at-node.ensures in
+    let arm = c.default_arm.ensures.value ∙ ap (λ (x : Node). get_or (default_of x.details.second) 0 0) c.node_at-node.ensures in
     let is =
-    c.in-arm-else-past-references.ensures
+    c.in_arm-else-past-references.ensures
     ∙ ap (λ x. kid s n (arms_from node.parts + x + x + 1)) arm
     ∙ sym (counted_default (links_of s node) node.details node.parts i ge more within) in
-    let all = child_answer c.args.table.now n i c.in-arm-else-past-references.result c.requires.known c.requires.within is in
+    let all = child_answer c.args.table.now n i c.in_arm-else-past-references.result c.requires.known c.requires.within is in
     record { value = all.0; known = all.1; lower = all.2 }

@@ -10,6 +10,6 @@ pub returns : goal.returns
 returns c =
     let s = table_state c.args.table.now in
     let node = node_at s c.args.n in
-    ap₂ ◌+◌ c.counted-run.ensures.count (ap₂ ◌+◌ (ap (λ k. k + k) c.reference-count-references.ensures.value) c.default-count.ensures.value)
-    ∙ ap (λ (x : Node). counted_count x.details x.parts) c.node-at-node.ensures
+    ap₂ ◌+◌ c.counted_run.ensures.count (ap₂ ◌+◌ (ap (λ k. k + k) c.reference_count-references.ensures.value) c.default_count.ensures.value)
+    ∙ ap (λ (x : Node). counted_count x.details x.parts) c.node_at-node.ensures
     ∙ sym (length_counted (links_of s node) node.details node.parts)

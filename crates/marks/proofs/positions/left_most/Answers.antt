@@ -10,8 +10,8 @@ loop-at-preserved c =
     let t = c.args.table.now in
     let s = table_state t in
     let at = c.loop-at.at in
-    let has : has_left (node_at s at) ≡ true = sym (ap has_left c.node-at.ensures) ∙ sym c.has-left.ensures ∙ c.loop-at-test.true in
+    let has : has_left (node_at s at) ≡ true = sym (ap has_left c.node_at.ensures) ∙ sym c.has_left.ensures ∙ c.loop-at-test.true in
     let some : 0 < kids (node_at s at).parts = omega (arith, ltb-true 0 (node_at s at).parts.head (and_parts (goes_left (node_at s at).details.kind) (ltb 0 (node_at s at).parts.head) has).1) in (
-      lt-ltb c.kid-at-at.result s.used (omega (arith, c.kid-at-at.ensures, t.kids_known at 0 (ltb-true at s.used c.loop-at.invariant.0, some))),
-      λ p starts. c.loop-at.invariant.1 p (left at p has (subst (λ x. Starts s x p) c.kid-at-at.ensures starts)),
+      lt-ltb c.kid_at-at.result s.used (omega (arith, c.kid_at-at.ensures, t.kids_known at 0 (ltb-true at s.used c.loop-at.invariant.0, some))),
+      λ p starts. c.loop-at.invariant.1 p (left at p has (subst (λ x. Starts s x p) c.kid_at-at.ensures starts)),
     )

@@ -3,25 +3,25 @@ use Rattle.table.specs.State.{default_of, references, referred}
 use Rattle.table.proofs.Found.{getD_referred_left, getD_referred_right, length_referred, one_default}
 use Rattle.table.proofs.children.reference.Goals as goal
 
-pub returns-then-k-reference-count : goal.returns-then-k-reference-count
-returns-then-k-reference-count g c =
+pub returns-then-k-reference_count : goal.returns-then-k-reference_count
+returns-then-k-reference_count g c =
     let d = c.args.details.now in
     let p = c.args.parts.now in
     let k = c.args.k in
     let f = g.N.Named.names c.args.named.now in
-    let is : c.name-at.result ≡ get_or (referred f d p) k 0 = c.name-at.ensures ∙ ap (λ x. f (x + k)) c.kid-count.ensures.value ∙ sym (getD_referred_left f d p k (omega arith)) in
+    let is : c.name_at.result ≡ get_or (referred f d p) k 0 = c.name_at.ensures ∙ ap (λ x. f (x + k)) c.kid_count.ensures.value ∙ sym (getD_referred_left f d p k (omega arith)) in
     let inside : k < length (referred f d p) = omega (arith, length_referred f d p, c.requires.within) in
     let low = c.requires.arms k inside in
-    record { bound = omega (arith, c.kid-count.ensures.bound); there = omega arith; value = is }
+    record { bound = omega (arith, c.kid_count.ensures.bound); there = omega arith; value = is }
 
-pub returns-else-k-reference-count : goal.returns-else-k-reference-count
-returns-else-k-reference-count g c =
+pub returns-else-k-reference_count : goal.returns-else-k-reference_count
+returns-else-k-reference_count g c =
     let d = c.args.details.now in
     let p = c.args.parts.now in
     let k = c.args.k in
     let f = g.N.Named.names c.args.named.now in
     let here : 0 ≡ k - references p = omega (arith, one_default d.second) in
-    let is : c.default-arm.result ≡ get_or (referred f d p) k 0 =
-    c.default-arm.ensures.value ∙ ap (λ x. get_or (default_of d.second) x 0) here ∙ sym (getD_referred_right f d p k (omega arith)) in
+    let is : c.default_arm.result ≡ get_or (referred f d p) k 0 =
+    c.default_arm.ensures.value ∙ ap (λ x. get_or (default_of d.second) x 0) here ∙ sym (getD_referred_right f d p k (omega arith)) in
     let inside : k < length (referred f d p) = omega (arith, length_referred f d p, c.requires.within) in
-    record { bound = omega (arith, c.default-arm.ensures.bound); there = omega (arith, c.requires.arms k inside); value = is }
+    record { bound = omega (arith, c.default_arm.ensures.bound); there = omega (arith, c.requires.arms k inside); value = is }

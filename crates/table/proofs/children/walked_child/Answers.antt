@@ -12,9 +12,9 @@ returns-then-i-direct g c e =
     let p = c.args.parts.now in
     let f = g.N.Named.names c.args.named.now in
     let i = c.args.i in
-    let run : c.run-count-direct.result ≡ direct d p = c.run-count-direct.ensures.value ∙ ap (λ x. run_count x.blocks p) c.shape-blocks.ensures in
-    let from : c.run-from.result ≡ run_from (shape_of d.kind).blocks p = c.run-from.ensures.value ∙ ap (λ x. run_from x.blocks p) c.shape-blocks.ensures in
-    c.name-at.ensures ∙ ap (λ x. f (x + i)) from ∙ sym (getD_walked_direct f d p i (omega arith))
+    let run : c.run_count-direct.result ≡ direct d p = c.run_count-direct.ensures.value ∙ ap (λ x. run_count x.blocks p) c.shape-blocks.ensures in
+    let from : c.run_from.result ≡ run_from (shape_of d.kind).blocks p = c.run_from.ensures.value ∙ ap (λ x. run_from x.blocks p) c.shape-blocks.ensures in
+    c.name_at.ensures ∙ ap (λ x. f (x + i)) from ∙ sym (getD_walked_direct f d p i (omega arith))
     ∙ get_or_default (walked f d p) i 0 e (omega (arith, length_walked f d p, c.requires.within))
 
 pub returns : goal.returns
@@ -25,11 +25,11 @@ returns g c e =
     let i = c.args.i in
     let k = direct d p in
     let arms = referred f d p in
-    let run : c.run-count-direct.result ≡ k = c.run-count-direct.ensures.value ∙ ap (λ x. run_count x.blocks p) c.shape-blocks.ensures in
+    let run : c.run_count-direct.result ≡ k = c.run_count-direct.ensures.value ∙ ap (λ x. run_count x.blocks p) c.shape-blocks.ensures in
     let arm : c.reference-arm.result ≡ get_or arms ((i - k) / 2) 0 = c.reference-arm.ensures.value ∙ ap (λ x. get_or arms ((i - x) / 2) 0) run in
-    c.name-at-2.ensures
-    ∙ ap (λ x. f (x + c.reference-arm.result + c.reference-arm.result + (i - c.run-count-direct.result) % 2)) c.arms-start.ensures.value
-    ∙ ap (λ x. f (arms_from p + x + x + (i - c.run-count-direct.result) % 2)) arm
+    c.name_at-2.ensures
+    ∙ ap (λ x. f (x + c.reference-arm.result + c.reference-arm.result + (i - c.run_count-direct.result) % 2)) c.arms_start.ensures.value
+    ∙ ap (λ x. f (arms_from p + x + x + (i - c.run_count-direct.result) % 2)) arm
     ∙ ap (λ x. f (arms_from p + get_or arms ((i - k) / 2) 0 + get_or arms ((i - k) / 2) 0 + (i - x) % 2)) run
     ∙ sym (getD_walked_arms f d p i (omega arith) c.requires.within)
     ∙ get_or_default (walked f d p) i 0 e (omega (arith, length_walked f d p, c.requires.within))

@@ -7,5 +7,5 @@ pub returns : goal.returns
 returns c =
     let d = c.args.details.now in
     let p = c.args.parts.now in
-    let run : c.run-count.result ≡ direct d p = c.run-count.ensures.value ∙ ap (λ x. run_count x.blocks p) c.shape.ensures in
+    let run : c.run_count.result ≡ direct d p = c.run_count.ensures.value ∙ ap (λ x. run_count x.blocks p) c.shape.ensures in
     record { value = omega arith; length = λ f. omega (arith, length_walked f d p); bound = omega arith }

@@ -6,4 +6,4 @@ use Rattle.tree.proofs.forests.first_high.Given as goal
 abbrev pub invariant-loop-n : goal.invariant-loop-n
 invariant-loop-n g l =
     let t = g.T.Tree in
-    first_high {F = g.T-as-Fault.Denot} (t.heights l.tree) l.capacity (drop l.n-index l.roots) ≡ first_high {F = g.T-as-Fault.Denot} (t.heights l.tree) l.capacity l.roots
+    first_high {F = g.row.T-Fault.Denot} (t.heights l.tree) l.capacity (drop l.n-index l.roots) ≡ first_high {F = g.row.T-Fault.Denot} (t.heights l.tree) l.capacity l.roots

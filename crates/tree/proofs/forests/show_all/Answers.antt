@@ -8,8 +8,8 @@ use Rattle.tree.proofs.Law.{walk_law_of}
 use Rattle.tree.proofs.Listed.{branches, lines}
 use Rattle.tree.proofs.forests.show_all.Goals as goal
 
-pub show-each-all-requires : goal.show-each-all-requires
-show-each-all-requires g c =
+pub show_each-all-requires : goal.show_each-all-requires
+show_each-all-requires g c =
     let t = g.T.Tree in
     let tree = c.args.tree.now in
     let e = not_refused (t.known tree) (t.heights tree) (t.missing tree) c.args.roots.now (capacity_of c.args.path.now) c.requires in
@@ -24,9 +24,9 @@ returns g c =
     let roots = c.args.roots.now in
     let children = t.children tree in
     let e = not_refused (t.known tree) (t.heights tree) (t.missing tree) roots (capacity_of c.args.path.now) c.requires in
-    let ran = ap (run (λ s q. g.V.Visitor.next s tree q) (λ s q. g.V.Visitor.accepts s tree q) c.args.visitor.now) (sym (each_paths children 64 roots)) ∙ c.show-each-all.ensures.ran in
-    let w = walk_law_of (FollowEach children roots) (along_each children roots) (λ s q. g.V.Visitor.next s tree q) (λ s q. g.V.Visitor.accepts s tree q) [] (names_of c.show-each-all.new.path) c.args.visitor.now c.show-each-all.new.visitor
-    (branches (lines children 64) 0 roots) (each_listed children (t.lawful tree) roots e.0) c.show-each-all.result ran c.show-each-all.ensures.back in
+    let ran = ap (run (λ s q. g.V.Visitor.next s tree q) (λ s q. g.V.Visitor.accepts s tree q) c.args.visitor.now) (sym (each_paths children 64 roots)) ∙ c.show_each-all.ensures.ran in
+    let w = walk_law_of (FollowEach children roots) (along_each children roots) (λ s q. g.V.Visitor.next s tree q) (λ s q. g.V.Visitor.accepts s tree q) [] (names_of c.show_each-all.new.path) c.args.visitor.now c.show_each-all.new.visitor
+    (branches (lines children 64) 0 roots) (each_listed children (t.lawful tree) roots e.0) c.show_each-all.result ran c.show_each-all.ensures.back in
     record {
       law = (w.0, rw c.after.ensures w.1);
       memory = search rules;

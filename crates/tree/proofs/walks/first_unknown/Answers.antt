@@ -13,7 +13,7 @@ returns-in-Err g c =
 pub loop-n-preserved : goal.loop-n-preserved
 loop-n-preserved g c =
     let t = g.T.Tree in
-    let k = told_ok _ _ _ c.height.ensures.value c.in-default.is in
+    let k = told_ok _ _ _ c.height.ensures.value c.in_default.is in
     missing_passes (t.known c.args.tree.now) (t.missing c.args.tree.now) c.args.names.now c.loop-n.n-index c.n-item.result c.loop-n-test.true c.n-item.is k.0 ∙ c.loop-n.invariant
 
 pub returns : goal.returns

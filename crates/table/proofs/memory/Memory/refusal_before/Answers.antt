@@ -6,20 +6,20 @@ use Rattle.table.specs.State.{state_of}
 use Rattle.table.proofs.Passed.{known_passed, range_passed, fit_passed, fit_parts}
 use Rattle.table.proofs.memory.Memory.refusal_before.Goals as goal
 
-pub fit-refusal-requires : goal.fit-refusal-requires
-fit-refusal-requires c = (in_range_parts c.args.draft.now (range_passed c.args.draft.now c.args.idents.now (sym c.range-refusal.ensures ∙ c.in-default-range-refusal.is)).0).kind
+pub fit_refusal-requires : goal.fit_refusal-requires
+fit_refusal-requires c = (in_range_parts c.args.draft.now (range_passed c.args.draft.now c.args.idents.now (sym c.range_refusal.ensures ∙ c.in_default-range_refusal.is)).0).kind
 
-pub sort-refusal-requires : goal.sort-refusal-requires
-sort-refusal-requires c =
+pub sort_refusal-requires : goal.sort_refusal-requires
+sort_refusal-requires c =
     let d = c.args.draft.now in
     let places = c.args.places.now in
     let idents = c.args.idents.now in
     record {
-      counted = (fit_parts (shape_of (kind_of d.kind)) d (length places) (length idents) (fit_passed c.args.text.now d places idents (sym c.fit-refusal.ensures ∙ c.in-default-fit-refusal.is)).0).counted;
-      known = λ k lt. omega (arith, known_passed (state_of c.args.self.now) d places (sym c.known-refusal.ensures ∙ c.in-default.is) k lt, c.requires);
+      counted = (fit_parts (shape_of (kind_of d.kind)) d (length places) (length idents) (fit_passed c.args.text.now d places idents (sym c.fit_refusal.ensures ∙ c.in_default-fit_refusal.is)).0).counted;
+      known = λ k lt. omega (arith, known_passed (state_of c.args.self.now) d places (sym c.known_refusal.ensures ∙ c.in_default.is) k lt, c.requires);
     }
 
-pub held-refusal-requires : goal.held-refusal-requires
-held-refusal-requires c =
-    let known = known_passed (state_of c.args.self.now) c.args.draft.now c.args.places.now (sym c.known-refusal.ensures ∙ c.in-default.is) in
+pub held_refusal-requires : goal.held_refusal-requires
+held_refusal-requires c =
+    let known = known_passed (state_of c.args.self.now) c.args.draft.now c.args.places.now (sym c.known_refusal.ensures ∙ c.in_default.is) in
     record { known = λ k lt. omega (arith, known k lt, c.requires); few = λ k lt. omega (arith, known k lt, c.requires) }
