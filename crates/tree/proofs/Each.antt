@@ -1,12 +1,10 @@
 -- What holds of each of several names that a walk was not refused for. Assumes nothing.
-use Rattle.std.proofs.Common.{◌≡◌, ℕ, zero, suc, ◌+◌, ◌<◌, ◌≤◌, Bool, true, false, cond, leb, List, [], ◌∷◌, length, get_or, drop, Some, None, Option, sym, refl, ap, ◌∙◌, subst, arith, leb-true}
+use Rattle.std.proofs.Common.{◌≡◌, ℕ, zero, suc, ◌+◌, ◌<◌, ◌≤◌, Bool, true, false, cond, leb, List, [], ◌∷◌, length, get_or, drop, Some, None, Option, sym, refl, ap, ◌∙◌, arith, leb-true}
 use Rattle.std.proofs.lemmas.List.{at_drop_more}
 use Rattle.std.proofs.lemmas.Bool.{cond-true, cond-false}
-use Rattle.tree.specs.declared.paths.PathFault.{PathFault}
 use Rattle.tree.specs.Forests.{first_high, each_room, refusal_each}
 use Rattle.tree.specs.Walks.{first_missing}
-use Rattle.tree.specs.declared.walks.WalkFault.{WalkFault}
-use Rattle.tree.specs.declared.walks.WalkFault.TheVariants.{Tree, Path}
+use Rattle.tree.specs.declared.walks.WalkFault.TheVariants.{Path}
 
 some_none : {X : Type 0} {x : X} → Some x ≡ None → ⊥
 some_none e = let z : ◌≡◌ {A = ℕ} 0 1 = cc in omega arith

@@ -1,5 +1,5 @@
 -- How long a path is. Assumes nothing.
-use Rattle.std.proofs.Common.{◌≡◌, ℕ, ◌+◌, List, [], ◌∷◌, ◌++◌, length, Some, None, Option, sym, ap, ◌∙◌, arith}
+use Rattle.std.proofs.Common.{◌≡◌, ◌+◌, List, [], ◌∷◌, ◌++◌, length, Some, None, Option, sym, ap, ◌∙◌, arith}
 use Rattle.std.proofs.lemmas.List.{length-take, length_push, same_from_push}
 use Rattle.tree.specs.Paths.{names_of, Popped}
 use Rattle.tree.specs.declared.stacks.PathStack.{PathStack}

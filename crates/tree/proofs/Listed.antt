@@ -1,11 +1,11 @@
 -- All lines of descent from a name, listed in document order, and the paths that show them. Assumes nothing.
-use Rattle.std.proofs.Common.{◌≡◌, ℕ, zero, suc, ◌+◌, ◌<◌, ◌≤◌, Bool, true, ◌⊎◌, List, [], ◌∷◌, ◌++◌, map, length, get_or, drop, sym, refl, ap, ◌∙◌, subst, ap₂, inl, inr, ⊎_elim, append_assoc, arith}
+use Rattle.std.proofs.Common.{◌≡◌, ℕ, zero, suc, ◌<◌, ◌≤◌, Bool, true, ◌⊎◌, List, [], ◌∷◌, ◌++◌, map, length, get_or, drop, sym, refl, ap, ◌∙◌, subst, ap₂, inl, inr, append_assoc, arith}
 use mathlib.Core.List.Memᴰ
 use mathlib.Core.List.{Memᴰ}
-use Rattle.std.proofs.lemmas.List.{map-append, drop_all}
-use Rattle.std.proofs.lemmas.Bool.{cases_order, cases_lt}
+use Rattle.std.proofs.lemmas.List.{map-append}
+use Rattle.std.proofs.lemmas.Bool.{cases_order}
 use Rattle.std.specs.List.{flat_map}
-use Rattle.tree.specs.Lines.{TreeLaw, child_of, Follow, along, Before, In, AllLines}
+use Rattle.tree.specs.Lines.{TreeLaw, child_of, Follow, along, Before, AllLines}
 use Rattle.tree.specs.Runs.{paths}
 use Rattle.tree.specs.Walks.{path_of}
 use Rattle.tree.proofs.Order.{Sorted, in_from_mem, mem_from_in, ascending_from_sorted, sorted_append}

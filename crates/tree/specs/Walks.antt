@@ -3,7 +3,6 @@
 use Rattle.std.specs.Prelude.{◌≡◌, ℕ, ◌+◌, ◌<◌, Bool, true, cond, List, [], ◌∷◌, ◌++◌, map, length, take, Some, None, Ok, Err, Option, Result, nat_le, slice_index_or}
 use Rattle.tree.specs.Lines.{Follow, along, Before, In, Ascending}
 use Rattle.tree.specs.Paths.{names_of, capacity_of}
-use Rattle.tree.specs.declared.paths.PathFault.{PathFault}
 use Rattle.tree.specs.declared.stacks.PathStack.{PathStack}
 use Rattle.tree.specs.declared.walks.Outcome.{Outcome}
 use Rattle.tree.specs.declared.walks.Outcome.TheVariants.{Finished, Stopped}

@@ -1,4 +1,4 @@
-use Rattle.std.proofs.Common.{◌≡◌, [], take, sym, ap, ◌∙◌, subst, rules}
+use Rattle.std.proofs.Common.{[], sym, ap, ◌∙◌, rules}
 use Rattle.tree.specs.Paths.{names_of, capacity_of}
 use Rattle.tree.specs.Forests.{FollowEach, along_each}
 use Rattle.tree.specs.Runs.{run}

@@ -1,6 +1,5 @@
-use Rattle.std.proofs.Common.{◌≡◌, suc, ◌+◌, ◌<◌, ◌≤◌, true, false, length, sym, refl, ap, ◌∙◌, arith, rules}
+use Rattle.std.proofs.Common.{◌+◌, ◌<◌, ◌≤◌, length, sym, ap, ◌∙◌, arith, rules}
 use Rattle.std.proofs.lemmas.Bool.{false≢true}
-use Rattle.tree.specs.Lines.{child_of}
 use Rattle.tree.specs.Paths.{names_of, capacity_of}
 use Rattle.tree.proofs.Asked.{counted, child_is, child_known, child_lower}
 use Rattle.tree.proofs.Lengths.{same_long, one_longer, popped_back}

@@ -1,7 +1,6 @@
-use Rattle.std.proofs.Common.{◌≡◌, sym, ap, ◌∙◌, subst}
+use Rattle.std.proofs.Common.{sym, ap, ◌∙◌}
 use Rattle.tree.specs.Paths.{names_of}
 use Rattle.tree.specs.Runs.{run}
-use Rattle.tree.specs.Walks.{WalkLaw}
 use Rattle.tree.proofs.Law.{walk_law}
 use Rattle.tree.proofs.Listed.{lines, listed, paths_are}
 use Rattle.tree.proofs.walks.show_lines.Goals as goal

@@ -1,4 +1,4 @@
-use Rattle.std.proofs.Common.{sym, rules}
+use Rattle.std.proofs.Common.{rules}
 use Rattle.std.proofs.lemmas.List.{take-take, take_all, length-take}
 use Rattle.tree.proofs.stacks.PathStack.truncate.Goals as goal
 
