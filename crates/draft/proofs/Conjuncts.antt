@@ -1,5 +1,5 @@
 -- The parts of the tests on a draft. Assumes nothing.
-use Rattle.std.proofs.Common.{◌≡◌, ℕ, Bool, true, ◌&&◌, ltb}
+use Rattle.std.proofs.Common.{◌≡◌, ℕ, true, ltb}
 use Rattle.std.proofs.lemmas.Bool.{and_parts}
 use Rattle.draft.specs.Details.{small, small_constant}
 use Rattle.draft.specs.Drafts.{in_range, runs_within, if_given, kind_in_range, flags_in_range, constant_in_range, ident_in_range, constant_within, ident_within}

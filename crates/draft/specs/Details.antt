@@ -1,5 +1,5 @@
 -- What is kept of a draft. Assumes nothing.
-use Rattle.std.specs.Prelude.{ℕ, Bool, true, ◌&&◌, ltb, Some, None, Option, ◌==◌, nat_lt}
+use Rattle.std.specs.Prelude.{ℕ, Bool, true, ◌&&◌, Some, None, Option, ◌==◌, nat_lt}
 use Rattle.std.specs.Option.{option_map}
 use Rattle.draft.specs.Drafts.{if_given}
 use Rattle.kind.specs.Kinds.{stmt_at, expr_at}
@@ -103,4 +103,4 @@ small_constant (raw.Char c) = true
 small_constant (raw.Text run) = true
 
 abbrev pub small : Draft → Bool
-small d = if_given small_constant d.constant && if_given (λ a. ltb a 65536) d.default
+small d = if_given small_constant d.constant && if_given (λ a. nat_lt a 65536) d.default

@@ -1,6 +1,6 @@
 -- When the numbers of a draft are in range, when its runs lie within the text, and what is kept of them.
 -- Assumes nothing.
-use Rattle.std.specs.Prelude.{ℕ, ◌+◌, Bool, true, false, ◌&&◌, ◌||◌, List, Some, None, Option, nat_le, nat_lt}
+use Rattle.std.specs.Prelude.{ℕ, ◌+◌, Bool, true, ◌&&◌, ◌||◌, Some, None, Option, nat_le, nat_lt}
 use Rattle.node.specs.Positions.{in_place, in_place_span}
 use Rattle.draft.specs.declared.drafts.Draft.{Draft}
 use Rattle.draft.specs.declared.drafts.RawConstant.{RawConstant}

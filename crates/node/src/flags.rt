@@ -1,6 +1,6 @@
 //! Sets of flags.
 ghost use Rattle.node.specs.Flags.{breaks, constant, contains, exported, negated};
-ghost use Rattle.std.specs.Prelude.{◌≡◌, leb, if◌then◌else◌, Some, None, ◌==◌};
+ghost use Rattle.std.specs.Prelude.{◌≡◌, nat_le, if◌then◌else◌, Some, None, ◌==◌};
 
 /// A set of flags, 0 to 15.
 #[derive(Clone, Copy, PartialEq, Eq, Debug)]
@@ -26,7 +26,7 @@ impl ASTFlags {
 
     /// The set of a number from 0 to 15; none for any other number.
     pub fn from_bits(bits: u32) -> Option<ASTFlags>
-        ensures { result ≡ (if leb bits 15 then Some (record { bits = bits }) else None) }
+        ensures { result ≡ (if nat_le bits 15 then Some (record { bits = bits }) else None) }
     {
         if bits <= 15 {
             Some(ASTFlags { bits: bits as u8 })

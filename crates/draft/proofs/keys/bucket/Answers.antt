@@ -1,4 +1,4 @@
-use Rattle.std.proofs.Common.{◌≡◌, ◌+◌, ◌*◌, ◌%◌, ◌<◌, length, get_or, take, sym, ap, ◌∙◌, mod-lt, arith, lit<}
+use Rattle.std.proofs.Common.{◌+◌, ◌*◌, ◌%◌, length, get_or, sym, ap, ◌∙◌, mod-lt, lit<}
 use Rattle.std.proofs.lemmas.List.{at_drop_more, at_drop_all}
 use Rattle.draft.specs.Buckets.{mix}
 use Rattle.draft.proofs.keys.bucket.Goals as goal
