@@ -1,11 +1,10 @@
 -- Gathering the entries at a depth, one turn after another. Assumes nothing.
-use Rattle.std.proofs.Common.{◌≡◌, ℕ, ◌+◌, ◌-◌, ◌<◌, ◌≤◌, max, ◌⊎◌, List, [], ◌∷◌, ◌++◌, length, get_or, drop, sym, refl, ap, ◌∙◌, subst, ⊎_elim, le_refl, arith}
+use Rattle.std.proofs.Common.{◌≡◌, ℕ, ◌+◌, ◌-◌, ◌<◌, ◌≤◌, max, ◌⊎◌, List, [], ◌∷◌, ◌++◌, length, get_or, sym, refl, ap, ◌∙◌, subst, ⊎_elim, le_refl, arith}
 use native.Mathlib.Nat.{zero-max, max-zero, max-le}
 use Rattle.std.proofs.lemmas.List.{append_assoc, append-nil}
 use Rattle.std.proofs.lemmas.Bool.{cases_lt}
 use Rattle.outline.specs.Building.{Gathering, Ready, Settled}
 use Rattle.outline.specs.Nesting.{at, highest}
-use Rattle.outline.specs.declared.building.Gathered.{Gathered}
 use Rattle.outline.specs.declared.entries.Entry.{Entry}
 use Rattle.outline.specs.declared.entries.Place.{Place}
 use Rattle.outline.proofs.Kids.{from_on, kids_here, kids_stop, kids_end, kids_skip}
@@ -45,7 +44,7 @@ module _ (depths : List ℕ) (places : List Place) (from depth : ℕ) (before : 
           low = omega (arith, going.low, s.after);
           high = s.past;
           appended = append_assoc held (record { number = i } ∷ []) _ ∙ ap (λ es. held ++ es) (sym next) ∙ going.appended;
-          highest_is = max_assoc height p.height _ ∙ ap (λ es. max height (highest places es)) (sym next) ∙ going.highest-is;
+          highest_is = max_assoc height p.height _ ∙ ap (λ es. max height (highest places es)) (sym next) ∙ going.highest_is;
           shallow = let m : max height p.height ≤ 64 - depth = max-le (omega (arith, going.shallow)) (omega (arith, s.shallow)) in omega (arith, going.shallow);
           deep = λ k a b. ⊎_elim (λ before. going.deep k a before) (λ from_here. ⊎_elim (λ (same : i < k). omega (arith, s.below k same b)) (λ same. subst (λ j. depth ≤ get_or depths j 0) {x = i} (omega arith) d) (cases_lt i k)) (cases_lt k i);
           next = omega (arith, s.stops);
@@ -62,7 +61,7 @@ module _ (depths : List ℕ) (places : List Place) (from depth : ℕ) (before : 
     pub finished : (length depths ≤ i) ⊎ (get_or depths i 0 < depth) → Gathering depths places from depth before (record { height = height; past = i }) held
     finished over = record {
       appended = sym (append-nil held) ∙ ap (λ es. held ++ es) (sym (none over)) ∙ going.appended;
-      height = sym (max-zero height) ∙ ap (λ es. max height (highest places es)) (sym (none over)) ∙ going.highest-is;
+      height = sym (max-zero height) ∙ ap (λ es. max height (highest places es)) (sym (none over)) ∙ going.highest_is;
       shallow = going.shallow;
       low = going.low;
       high = going.high;

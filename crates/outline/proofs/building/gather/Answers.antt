@@ -14,7 +14,7 @@ loop-at-init c = started _ _ _ _ _ c.requires
 pub loop-at-preserved : goal.loop-at-preserved
 loop-at-preserved c =
     let settled = c.requires.settled c.loop-at.at c.loop-at.invariant.low c.loop-at-test.true in
-    stepped _ _ _ _ _ _ _ _ c.loop-at.invariant c.loop-at-test.true c.if-depths-at.true settled c.max-height.ensures c.in-ok-push.ensures.items
+    stepped _ _ _ _ _ _ _ _ c.loop-at.invariant c.loop-at-test.true c.if-depths-at.true settled c.max-height.ensures c.in_ok-push.ensures.items
 
 pub loop-at-smaller : goal.loop-at-smaller
 loop-at-smaller c = falls_short (c.requires.settled c.loop-at.at c.loop-at.invariant.low c.loop-at-test.true)

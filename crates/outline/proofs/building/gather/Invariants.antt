@@ -1,5 +1,4 @@
 use Rattle.std.proofs.Common.{◌-◌, length, vec_items}
-use Rattle.outline.specs.Building.{SettledFrom}
 use Rattle.outline.proofs.Gather.{Going}
 use Rattle.outline.proofs.building.gather.Given as goal
 

@@ -1,4 +1,4 @@
-use Rattle.std.proofs.Common.{◌≡◌, length, vec_items}
+use Rattle.std.proofs.Common.{vec_items}
 use Rattle.outline.specs.Building.{SettledFrom}
 use Rattle.outline.proofs.building.settle.Given as goal
 

@@ -1,4 +1,4 @@
-use Rattle.std.proofs.Common.{◌≡◌, ℕ, ◌+◌, ◌<◌, ◌≤◌, length, get_or, take}
+use Rattle.std.proofs.Common.{◌≡◌, ◌+◌, ◌<◌, ◌≤◌, length, get_or, take}
 use Rattle.std.specs.List.{suffix_len}
 use Rattle.outline.specs.Reading.{is_blank}
 use Rattle.outline.proofs.lines.end_of_text.Given as goal
