@@ -1,5 +1,5 @@
 -- The rule of a visitor that says no once. Assumes nothing.
-use Rattle.std.specs.Prelude.{ℕ, ◌+◌, min, Bool, not, ◌==◌}
+use Rattle.std.specs.Prelude.{◌+◌, min, Bool, not, ◌==◌}
 use Rattle.tree_tests.specs.declared.halts.Halt.{Halt}
 
 -- one line more was shown; at 65,535 the count stays

@@ -70,7 +70,7 @@ fn full_path(rt: HostRuntime) -> Result<(), Fail> {
     assert_eq!(rt; path.push(ONE), Err(fault));
     assert_eq!(rt; fault.number(), 9);
     assert_eq!(rt; fault.layer(), Layer::Path);
-    assert_eq!(rt; path.names(), &[TWO, SIX]);
+    assert_eq!(rt; path.names(), [TWO, SIX].as_slice());
     assert_eq!(rt; places, [TWO, SIX]);
     Ok(())
 }
@@ -84,6 +84,6 @@ fn names_off_the_path(rt: HostRuntime) -> Result<(), Fail> {
     path.truncate(5);
     assert_eq!(rt; path.pop(), Some(SIX));
     path.truncate(2);
-    assert_eq!(rt; path.names(), &[ONE, TWO]);
+    assert_eq!(rt; path.names(), [ONE, TWO].as_slice());
     Ok(())
 }

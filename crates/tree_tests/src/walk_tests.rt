@@ -29,7 +29,7 @@ fn finishes(rt: &impl Abort, rungs: u8, fan: usize, lines: u16) -> Result<(), Fa
     let outcome = walk(&Ladder { rungs, fan }, start, &mut path, &mut halt);
     assert_eq!(rt; outcome, Ok(Outcome::Finished));
     assert_eq!(rt; halt.shown(), lines);
-    assert_eq!(rt; path.names(), &[ONE]);
+    assert_eq!(rt; path.names(), [ONE].as_slice());
     Ok(())
 }
 
@@ -82,7 +82,7 @@ fn refuses(
     let mut halt = Halt::new(1);
     let ladder = Ladder { rungs: 3, fan: 2 };
     assert_eq!(rt; walk(&ladder, start, &mut path, &mut halt), Err(fault));
-    assert_eq!(rt; path.names(), &initial);
+    assert_eq!(rt; path.names(), initial.as_slice());
     assert_eq!(rt; halt, Halt::new(1));
     let [a, b, c] = initial;
     assert_eq!(rt; places, [a, b, c, SIX, SIX]);
