@@ -8,6 +8,7 @@ mod walking;
 
 use outline::outlines::Outline;
 use std::env;
+use std::process::ExitCode;
 
 fn run(rt: &HostRuntime) -> anyhow::Result<()> {
     let outline = reading::read_outline(rt)?;
@@ -19,10 +20,10 @@ fn run(rt: &HostRuntime) -> anyhow::Result<()> {
     }
 }
 
-fn main(rt: HostRuntime) -> anyhow::Result<()> {
-    let result = run(&rt);
-    if let Err(e) = &result {
+fn main(rt: HostRuntime) -> anyhow::Result<ExitCode> {
+    if let Err(e) = run(&rt) {
         eprintln!(rt; "walk_outline: {e}")?;
+        return Ok(ExitCode::FAILURE);
     }
-    result
+    Ok(ExitCode::SUCCESS)
 }
