@@ -28,8 +28,6 @@ returns g c e =
     let run : c.run_count-direct.result ≡ k = c.run_count-direct.ensures.value ∙ ap (λ x. run_count x.blocks p) c.shape-blocks.ensures in
     let arm : c.reference-arm.result ≡ get_or arms ((i - k) / 2) 0 = c.reference-arm.ensures.value ∙ ap (λ x. get_or arms ((i - x) / 2) 0) run in
     c.name_at-2.ensures
-    ∙ ap (λ x. f (x + c.reference-arm.result + c.reference-arm.result + (i - c.run_count-direct.result) % 2)) c.arms_start.ensures.value
-    ∙ ap (λ x. f (arms_from p + x + x + (i - c.run_count-direct.result) % 2)) arm
-    ∙ ap (λ x. f (arms_from p + get_or arms ((i - k) / 2) 0 + get_or arms ((i - k) / 2) 0 + (i - x) % 2)) run
+    ∙ ap f (omega (arith, run, arm, c.arms_start.ensures.value))
     ∙ sym (getD_walked_arms f d p i (omega arith) c.requires.within)
     ∙ get_or_default (walked f d p) i 0 e (omega (arith, length_walked f d p, c.requires.within))
