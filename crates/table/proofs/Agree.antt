@@ -1,16 +1,15 @@
 -- Parts and children of nodes whose links name the same. Assumes nothing.
-use Rattle.std.proofs.Common.{◌≡◌, ℕ, zero, suc, ◌+◌, ◌-◌, ◌/◌, ◌%◌, ◌<◌, ◌≤◌, max, List, [], ◌∷◌, ◌++◌, map, length, get_or, sym, refl, ap, ◌∙◌, subst, ap₂, ⊎_elim, arith}
+use Rattle.std.proofs.Common.{◌≡◌, ℕ, zero, suc, ◌+◌, ◌-◌, ◌/◌, ◌%◌, ◌<◌, ◌≤◌, max, List, [], ◌∷◌, ◌++◌, length, get_or, sym, refl, ap, ◌∙◌, ap₂, ⊎_elim, arith}
 use Rattle.std.proofs.lemmas.Bool.{cases_lt}
 use Rattle.std.proofs.lemmas.List.{same_lists, get_or_default}
-use Rattle.std.specs.List.{range_with_len}
 use Rattle.kind.specs.Shapes.{shape_of}
 use Rattle.node.specs.declared.records.Details.{Details}
 use Rattle.node.specs.declared.records.Parts.{Parts}
 use Rattle.kind.specs.declared.shapes.Blocks.{Blocks}
 use Rattle.kind.specs.declared.shapes.Blocks.TheVariants as blocks
-use Rattle.table.specs.Finds.{run_from, run_count, direct, arm_count, child_count}
-use Rattle.table.specs.State.{State, node_at, named, kids, references, references_of, referred, default_of, walked, arms_from, highest, all_lines}
-use Rattle.table.proofs.Found.{length_named, getD_named, length_referred, getD_referred_left, getD_referred_right, length_walked, getD_walked_direct, getD_walked_arms}
+use Rattle.table.specs.Finds.{run_from, run_count, direct, child_count}
+use Rattle.table.specs.State.{State, node_at, named, kids, references, referred, default_of, walked, arms_from, highest, all_lines}
+use Rattle.table.proofs.Found.{length_referred, length_walked, getD_walked_direct, getD_walked_arms}
 
 pub named_agrees : (f g : ℕ → ℕ) (from count : ℕ) → ((k : ℕ) → from ≤ k → k < from + count → f k ≡ g k) → named f from count ≡ named g from count
 named_agrees f g from zero same = refl

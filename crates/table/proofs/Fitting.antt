@@ -1,11 +1,11 @@
 -- What is known of a draft that no refusal is due for before counts are made. Assumes nothing.
-use Rattle.std.proofs.Common.{◌≡◌, ℕ, zero, suc, ◌+◌, ◌-◌, ◌<◌, ◌≤◌, min, Bool, true, false, cond, not, ◌&&◌, eqb, ltb, leb, ◌⊎◌, List, [], ◌∷◌, ◌++◌, length, get_or, take, drop, is_some, Some, None, Option, sym, refl, ap, ◌∙◌, subst, inl, inr, ⊎_elim, arith}
+use Rattle.std.proofs.Common.{◌≡◌, ℕ, zero, suc, ◌+◌, ◌-◌, ◌<◌, ◌≤◌, min, Bool, true, false, cond, not, ◌&&◌, ltb, leb, List, [], ◌∷◌, length, get_or, take, drop, is_some, Some, None, Option, sym, refl, ap, ◌∙◌, subst, ⊎_elim, arith}
 use Rattle.std.proofs.lemmas.List.{length-take-le, get_or-take, get_or-drop, length-drop}
 use Rattle.std.proofs.lemmas.Bool.{cond-true, and_parts, and_from, leb-true, le-leb, ltb-true, lt-ltb, eqb-true, not-true, cases_lt, both_ways}
-use Rattle.draft.proofs.Conjuncts.{in_range_parts, within_parts}
+use Rattle.draft.proofs.Conjuncts.{within_parts}
 use Rattle.draft.specs.Details.{details_of, kind_of, second_of, small, small_constant}
 use Rattle.draft.specs.Drafts.{in_range, runs_within, if_given, ident_in_range, ident_within, constant_within, run_within}
-use Rattle.draft.specs.Fits.{fits, handed, kids as draft_kids, fits_extra, no_arms, default_fits, same}
+use Rattle.draft.specs.Fits.{kids as draft_kids, fits_extra, no_arms, same}
 use Rattle.draft.specs.Lists.{all}
 use Rattle.draft.specs.declared.drafts.Draft.{Draft}
 use Rattle.draft.specs.declared.drafts.RawConstant.{RawConstant}
@@ -25,11 +25,11 @@ use Rattle.kind.specs.declared.shapes.Extra.TheVariants as extra
 use Rattle.table.specs.Facts.{NodesFit}
 use Rattle.table.specs.Fresh.{Fresh, Ready}
 use Rattle.table.specs.Grows.{new_link}
-use Rattle.table.specs.Puts.{kid_list, parts_of, handed_in, due_before, due_known, due_range, due_text, due_fit, due_place, due_held, stored_due, extras_fit, or_else, unless, shared_of, due_room, due_size, put_refusal, height_of, lines_of, node_of}
+use Rattle.table.specs.Puts.{kid_list, parts_of, handed_in, due_before, due_known, due_range, due_text, due_fit, due_place, due_held, stored_due, or_else, unless, shared_of, due_room, due_size, put_refusal, height_of, lines_of, node_of}
 use Rattle.table.specs.State.{State, total, referred, default_of, references, has, distinct, node_at, up_number}
-use Rattle.table.specs.Tests.{in_place, not_held, is_free}
+use Rattle.table.specs.Tests.{in_place, is_free}
 use Rattle.table.proofs.Elements.{all_at}
-use Rattle.table.proofs.Failing.{apart_distinct, some_none}
+use Rattle.table.proofs.Failing.{apart_distinct}
 use Rattle.table.proofs.Found.{length_referred, getD_referred_left, getD_referred_right}
 use Rattle.table.proofs.Has.{has_place}
 use Rattle.table.proofs.Passed.{unless_none, FitParts, fit_parts, or_none, known_passed, place_passed, held_passed, range_passed, text_passed, fit_passed}

@@ -1,9 +1,8 @@
 -- Where the children of a node stand among its links. Assumes nothing.
-use Rattle.std.proofs.Common.{◌≡◌, ℕ, zero, suc, ◌+◌, ◌-◌, ◌*◌, ◌/◌, ◌%◌, ◌<◌, ◌≤◌, ◌⊎◌, List, [], ◌∷◌, ◌++◌, map, length, get_or, sym, refl, ap, ◌∙◌, ap₂, inl, inr, ⊎_elim, arith}
+use Rattle.std.proofs.Common.{◌≡◌, ℕ, zero, suc, ◌+◌, ◌-◌, ◌/◌, ◌%◌, ◌<◌, ◌≤◌, List, [], ◌∷◌, ◌++◌, map, length, get_or, sym, refl, ap, ◌∙◌, ap₂, arith}
 use Rattle.std.proofs.lemmas.List.FromFn.{length-map-range_with_len, get_or-map-range_with_len}
 use Rattle.std.proofs.lemmas.List.{length-append, get_or_append_left, get_or-append_right, map-append}
-use Rattle.std.proofs.lemmas.Bool.{cases_lt}
-use Rattle.std.specs.List.{range_with_len, flat_map}
+use Rattle.std.specs.List.{range_with_len}
 use Rattle.kind.specs.Shapes.{shape_of}
 use Rattle.node.specs.declared.records.Details.{Details}
 use Rattle.node.specs.declared.records.Parts.{Parts}
@@ -12,7 +11,7 @@ use Rattle.node.specs.declared.records.Second.TheVariants as second
 use Rattle.kind.specs.declared.shapes.Blocks.{Blocks}
 use Rattle.kind.specs.declared.shapes.Blocks.TheVariants as blocks
 use Rattle.table.specs.Finds.{run_from, run_count, direct, arm_count, child_count}
-use Rattle.table.specs.State.{named, head_of, body_of, branch_of, references_of, references, referred, default_of, walked_parts, walked, through, condition_of, value_of, arms_from, kids}
+use Rattle.table.specs.State.{named, head_of, body_of, branch_of, references_of, references, referred, default_of, walked_parts, walked, through, arms_from, kids}
 
 pub length_named : (f : ℕ → ℕ) (from count : ℕ) → length (named f from count) ≡ count
 length_named f from count = length-map-range_with_len f from count

@@ -1,15 +1,13 @@
 -- What always holds of a table holds after a put. Assumes nothing.
-use Rattle.std.proofs.Common.{◌≡◌, ℕ, zero, suc, ◌+◌, ◌<◌, ◌≤◌, min, Bool, true, false, cond, ◌⊎◌, List, [], ◌∷◌, length, get_or, sym, refl, ap, ◌∙◌, subst, ap₂, inl, inr, ⊎_elim, arith}
-use Rattle.std.proofs.lemmas.Bool.{cases_lt, cases_Bool, both_ways}
+use Rattle.std.proofs.Common.{◌≡◌, ℕ, suc, ◌+◌, ◌<◌, ◌≤◌, Bool, true, false, cond, ◌⊎◌, List, length, get_or, sym, refl, ap, ◌∙◌, subst, ap₂, inl, inr, ⊎_elim, arith}
+use Rattle.std.proofs.lemmas.Bool.{cases_lt, cases_Bool}
 use Rattle.std.proofs.lemmas.List.{same_lists, get_or_default}
-use Rattle.node.specs.declared.records.Details.{Details}
 use Rattle.node.specs.declared.records.Link.{Link}
 use Rattle.node.specs.declared.records.Node.{Node}
-use Rattle.node.specs.declared.records.Parts.{Parts}
 use Rattle.node.specs.declared.records.Up.TheVariants as up
 use Rattle.table.specs.Facts.{Sound, kid, Holds, Under, Refers, Walks, is_stmt, takes_stmt}
 use Rattle.table.specs.Fresh.{Fresh}
-use Rattle.table.specs.Grows.{Grown, adopted, with_up}
+use Rattle.table.specs.Grows.{Grown, with_up}
 use Rattle.table.specs.State.{State, node_at, link_at, links_of, named, kids, references, total, referred, walked, children, held, arms_referred, has, distinct, up_number, highest, all_lines}
 use Rattle.table.proofs.Agree.{named_agrees, walked_held, referred_agrees, walked_agrees, highest_agrees, lines_agree, highest_above}
 use Rattle.table.proofs.Found.{length_named, getD_named}

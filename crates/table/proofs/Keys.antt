@@ -1,8 +1,8 @@
 -- Keys that are told apart by their bytes. Assumes nothing.
-use Rattle.std.proofs.Common.{◌≡◌, ℕ, zero, suc, ◌<◌, Bool, true, false, not, ◌&&◌, ◌||◌, eqb, ◌⊎◌, List, [], ◌∷◌, length, get_or, Decides, sym, refl, ap, ◌∙◌, ap₂, inl, inr, ⊎_elim, arith}
+use Rattle.std.proofs.Common.{◌≡◌, ℕ, zero, suc, ◌<◌, Bool, true, false, ◌⊎◌, List, [], ◌∷◌, length, Decides, sym, refl, ap, ◌∙◌, ap₂, inl, inr, ⊎_elim, arith}
 use Rattle.std.proofs.lemmas.Bool.{and_parts, and_from, or_left, or_right, or_cases, eqb-true, eq-eqb, not-true, not_from_false, cases_Bool, both_ways}
 use Rattle.std.proofs.lemmas.Bool.Decides.{same_from_decides}
-use Rattle.draft.specs.Keys.{key_bytes, key_at, no_key, Distinct}
+use Rattle.draft.specs.Keys.{key_bytes, key_at, Distinct}
 use Rattle.draft.specs.declared.drafts.RawIdent.{RawIdent}
 use Rattle.table.specs.Puts.{same_bytes, key_among, keys_apart}
 

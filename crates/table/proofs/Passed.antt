@@ -1,8 +1,8 @@
 -- What is known of a draft once tests on it were passed. Assumes nothing.
-use Rattle.std.proofs.Common.{◌≡◌, ℕ, ◌<◌, Bool, true, false, ◌&&◌, eqb, List, [], length, get_or, take, Some, None, Option, sym, refl, ap, ◌∙◌, arith}
+use Rattle.std.proofs.Common.{◌≡◌, ℕ, ◌<◌, Bool, true, false, List, [], length, get_or, take, Some, None, Option, refl}
 use Rattle.std.specs.Option.{option_map}
 use Rattle.std.proofs.lemmas.Bool.{and_parts, eqb-true, ltb-true}
-use Rattle.draft.specs.Fits.{fits, handed, fits_head, fits_blocks, fits_extra, fits_value, fits_names, same}
+use Rattle.draft.specs.Fits.{fits, handed, fits_head, fits_blocks, fits_extra, fits_value, fits_names}
 use Rattle.draft.specs.declared.drafts.Draft.{Draft}
 use Rattle.draft.specs.Details.{kind_of}
 use Rattle.draft.specs.Drafts.{in_range, runs_within, ident_in_range, ident_within}
@@ -14,7 +14,7 @@ use Rattle.node.specs.declared.faults.TableFault.TheVariants.{Missing, Misfit, H
 use Rattle.kind.specs.declared.shapes.Shape.{Shape}
 use Rattle.table.specs.Puts.{unless, or_else, kid_list, parts_of, due_known, due_range, due_text, due_fit, due_place, due_held, extras_fit}
 use Rattle.table.specs.State.{State}
-use Rattle.table.specs.Tests.{first_failing, is_known, in_place, not_held}
+use Rattle.table.specs.Tests.{is_known, in_place, not_held}
 use Rattle.table.proofs.Failing.{all_passed, some_none}
 
 -- the parts of the test on counts and data

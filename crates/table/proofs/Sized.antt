@@ -1,18 +1,15 @@
 -- The height and the lines of a node to be put. Assumes nothing.
-use Rattle.std.proofs.Common.{◌≡◌, ℕ, zero, suc, ◌+◌, ◌<◌, ◌≤◌, min, Bool, true, false, ◌&&◌, leb, ◌⊎◌, List, [], ◌∷◌, length, get_or, Some, None, Option, sym, refl, ap, ◌∙◌, subst, ap₂, inl, inr, ⊎_elim, arith}
-use Rattle.std.proofs.lemmas.Bool.{le-leb, lt-leb, leb-true, leb-false, and_from, and_right, and_parts, cases_Bool}
+use Rattle.std.proofs.Common.{◌≡◌, ℕ, suc, ◌+◌, ◌<◌, ◌≤◌, min, Bool, true, ◌&&◌, leb, List, [], ◌∷◌, length, get_or, Some, sym, refl, ap, ◌∙◌, ap₂, ⊎_elim, arith}
+use Rattle.std.proofs.lemmas.Bool.{le-leb, lt-leb, leb-true, leb-false, and_right, cases_Bool}
 use Rattle.draft.specs.Details.{details_of}
-use Rattle.draft.specs.Fits.{kids as draft_kids}
 use Rattle.draft.specs.declared.drafts.Draft.{Draft}
-use Rattle.node.specs.declared.faults.TableFault.{TableFault}
 use Rattle.node.specs.declared.faults.TableFault.TheVariants.{Size}
 use Rattle.kind.specs.declared.shapes.Extra.{Extra}
 use Rattle.kind.specs.declared.shapes.Extra.TheVariants as extra
 use Rattle.table.specs.Facts.{Sound}
-use Rattle.table.specs.Finds.{child_count, arm_count}
 use Rattle.table.specs.Fresh.{Ready}
 use Rattle.table.specs.Puts.{unless, shared_of, parts_of, handed_in, height_of, lines_of, due_size}
-use Rattle.table.specs.State.{State, node_at, walked, all_lines, kids}
+use Rattle.table.specs.State.{State, node_at, walked, all_lines}
 use Rattle.table.proofs.Agree.{walked_held}
 use Rattle.table.proofs.Found.{length_walked}
 

@@ -1,5 +1,5 @@
 -- What always holds of a table's memory. Assumes nothing.
-use Rattle.std.specs.Prelude.{◌≡◌, ℕ, suc, ◌+◌, ◌<◌, ◌≤◌, min, Bool, true, false, not, ◌&&◌, List, length, nat_le, nat_lt, slice_index, slice_index_or}
+use Rattle.std.specs.Prelude.{◌≡◌, ℕ, suc, ◌+◌, ◌<◌, ◌≤◌, min, Bool, true, false, ◌&&◌, length, nat_le, nat_lt, slice_index, slice_index_or}
 use Rattle.kind.specs.declared.kinds.Kind.{Kind}
 use Rattle.kind.specs.declared.kinds.Kind.TheVariants as kind
 use Rattle.node.specs.declared.records.Parts.{Parts}

@@ -1,5 +1,5 @@
 -- How a put changes a table's memory. Assumes nothing.
-use Rattle.std.specs.Prelude.{◌≡◌, ℕ, suc, ◌+◌, ◌<◌, Bool, cond, List, map, length, slice_index, slice_index_or}
+use Rattle.std.specs.Prelude.{◌≡◌, ℕ, suc, ◌+◌, ◌<◌, cond, List, map, length, slice_index, slice_index_or}
 use Rattle.draft.specs.Details.{ident_of}
 use Rattle.draft.specs.declared.drafts.RawIdent.{RawIdent}
 use Rattle.node.specs.declared.records.Link.{Link}

@@ -5,9 +5,8 @@ use Rattle.tree.specs.declared.limits.Memory.{Memory}
 use Rattle.tree.specs.declared.limits.Memory.TheVariants as limits
 use Rattle.tree.specs.declared.limits.MemoryFault.{MemoryFault}
 use Rattle.node.specs.declared.records.Ident.{Ident}
-use Rattle.node.specs.declared.records.Node.{Node}
 use Rattle.table.specs.Facts.{known, kid}
-use Rattle.table.specs.State.{State, state_of, node_at, link_at, kids, references, total, arms_referred}
+use Rattle.table.specs.State.{State, state_of, node_at, link_at, kids, references, total}
 use Rattle.table.specs.declared.tables.Table.{Table}
 
 -- what a table means

@@ -1,5 +1,5 @@
 -- What a table's memory means: its nodes, what each holds, and in which order that is walked. Assumes nothing.
-use Rattle.std.specs.Prelude.{ℕ, suc, ◌+◌, max, Bool, true, false, cond, not, ◌&&◌, List, [], ◌∷◌, ◌++◌, map, length, Some, None, ◌==◌, slice_index_or}
+use Rattle.std.specs.Prelude.{ℕ, suc, ◌+◌, max, Bool, true, false, cond, not, ◌&&◌, List, [], ◌∷◌, ◌++◌, map, None, ◌==◌, slice_index_or}
 use Rattle.std.specs.List.{range_with_len, flat_map}
 use Rattle.node.specs.Positions.{none}
 use Rattle.kind.specs.Shapes.{shape_of}

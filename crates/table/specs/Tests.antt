@@ -1,5 +1,5 @@
 -- The tests of a put on the children that are handed in. Assumes nothing.
-use Rattle.std.specs.Prelude.{ℕ, ◌+◌, Bool, true, false, cond, not, ◌&&◌, List, [], ◌∷◌, ◌++◌, length, Some, None, Option, ◌==◌, nat_le, nat_lt}
+use Rattle.std.specs.Prelude.{ℕ, ◌+◌, Bool, cond, not, ◌&&◌, List, [], ◌∷◌, ◌++◌, length, Some, None, Option, ◌==◌, nat_le, nat_lt}
 use Rattle.draft.specs.Fits.{same}
 use Rattle.node.specs.declared.records.Parts.{Parts}
 use Rattle.table.specs.Facts.{known, is_stmt}

@@ -1,4 +1,4 @@
-use Rattle.std.proofs.Common.{◌≡◌, ◌+◌, ◌-◌, ◌<◌, ◌≤◌, length, get_or, sym, ap, ◌∙◌, arith}
+use Rattle.std.proofs.Common.{◌≡◌, ◌+◌, ◌-◌, ◌<◌, length, get_or, sym, ap, ◌∙◌, arith}
 use Rattle.table.specs.State.{default_of, references, referred}
 use Rattle.table.proofs.Found.{getD_referred_left, getD_referred_right, length_referred, one_default}
 use Rattle.table.proofs.children.reference.Goals as goal

@@ -1,8 +1,8 @@
-use Rattle.std.proofs.Common.{◌≡◌, ◌+◌, ◌-◌, ◌/◌, ◌%◌, ◌<◌, ◌≤◌, length, get_or, sym, ap, ◌∙◌, arith}
+use Rattle.std.proofs.Common.{◌≡◌, ◌+◌, ◌-◌, ◌/◌, get_or, sym, ap, ◌∙◌, arith}
 use Rattle.std.proofs.lemmas.List.{get_or_default}
 use Rattle.kind.specs.Shapes.{shape_of}
 use Rattle.table.specs.Finds.{run_count, run_from, direct}
-use Rattle.table.specs.State.{referred, arms_from, walked}
+use Rattle.table.specs.State.{referred, walked}
 use Rattle.table.proofs.Found.{length_walked, getD_walked_direct, getD_walked_arms}
 use Rattle.table.proofs.children.walked_child.Goals as goal
 

@@ -1,5 +1,5 @@
-use Rattle.std.proofs.Common.{◌≡◌, sym, ap, ◌∙◌, arith}
-use Rattle.table.specs.Finds.{run_count, direct, child_count}
+use Rattle.std.proofs.Common.{◌≡◌, ap, ◌∙◌, arith}
+use Rattle.table.specs.Finds.{run_count, direct}
 use Rattle.table.proofs.Found.{length_walked}
 use Rattle.table.proofs.children.walked_count.Goals as goal
 

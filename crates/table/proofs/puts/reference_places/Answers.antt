@@ -1,4 +1,3 @@
-use Rattle.std.proofs.Common.{◌∙◌}
 use Rattle.draft.specs.Fits.{kids}
 use Rattle.std.proofs.lemmas.List.{take_rest}
 use Rattle.table.proofs.puts.reference_places.Goals as goal

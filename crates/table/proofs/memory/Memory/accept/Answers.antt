@@ -1,12 +1,7 @@
-use Rattle.std.proofs.Common.{◌≡◌, ℕ, ◌+◌, min, true, ◌&&◌, ltb, leb, length, is_some, Some, None, Option, sym, ap, ◌∙◌, ap₂, arith}
-use Rattle.std.proofs.lemmas.Bool.{and_parts, leb-true}
-use Rattle.draft.specs.Details.{details_of, kind_of}
-use Rattle.kind.specs.Shapes.{shape_of}
-use Rattle.node.specs.declared.faults.TableFault.TheVariants.{Full}
-use Rattle.table.specs.Puts.{due_before, due_size, due_room, or_else, unless, shared_of, parts_of}
-use Rattle.table.specs.State.{state_of, total}
+use Rattle.std.proofs.Common.{◌≡◌, is_some, sym, ap, ◌∙◌, arith}
+use Rattle.draft.specs.Details.{details_of}
+use Rattle.table.specs.State.{state_of}
 use Rattle.table.proofs.Fitting.{details_kept, ready, shared_is, room_is, refusal_is, room_there, size_there, made_is}
-use Rattle.table.proofs.Passed.{unless_none}
 use Rattle.table.proofs.memory.Memory.accept.Goals as goal
 
 pub unwrap-details-requires : goal.unwrap-details-requires

@@ -1,6 +1,5 @@
-use Rattle.std.proofs.Common.{◌≡◌, length, get_or, set, sym, ap, ◌∙◌, subst, arith, rules}
+use Rattle.std.proofs.Common.{length, get_or, set, ap, ◌∙◌, arith, rules}
 use Rattle.std.proofs.lemmas.List.{length-set}
-use Rattle.table.specs.Grows.{with_up}
 use Rattle.table.specs.State.{state_of, blank}
 use Rattle.table.proofs.Adopts.{adopt_more}
 use Rattle.table.proofs.memory.Memory.adopt.Goals as goal

@@ -1,4 +1,4 @@
-use Rattle.std.proofs.Common.{◌≡◌, ℕ, ◌+◌, ◌<◌, ◌≤◌, length, get_or, take}
+use Rattle.std.proofs.Common.{◌≡◌, ℕ, ◌<◌, length, get_or, take}
 use Rattle.table.specs.Grows.{SameLoans, adopted}
 use Rattle.table.specs.State.{blank, state_of}
 use Rattle.table.proofs.memory.Memory.adopt.Given as goal

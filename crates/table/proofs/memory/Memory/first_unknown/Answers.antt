@@ -1,4 +1,4 @@
-use Rattle.std.proofs.Common.{◌≡◌, length, get_or, take, sym, ap, ◌∙◌, arith}
+use Rattle.std.proofs.Common.{sym, ◌∙◌}
 use Rattle.table.specs.State.{state_of}
 use Rattle.table.specs.Tests.{is_known}
 use Rattle.table.proofs.Failing.{passes, fails, none_fails}

@@ -1,4 +1,4 @@
-use Rattle.std.proofs.Common.{◌≡◌, get_or, ◌∙◌, arith}
+use Rattle.std.proofs.Common.{get_or, arith}
 use Rattle.table.proofs.Agree.{walked_held}
 use Rattle.table.proofs.Found.{length_walked}
 use Rattle.table.proofs.memory.Memory.handed_child.Goals as goal

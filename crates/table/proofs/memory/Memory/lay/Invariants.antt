@@ -1,4 +1,4 @@
-use Rattle.std.proofs.Common.{◌≡◌, ℕ, ◌+◌, ◌<◌, ◌≤◌, length, get_or}
+use Rattle.std.proofs.Common.{◌≡◌, ℕ, ◌+◌, ◌<◌, length, get_or}
 use Rattle.table.specs.Grows.{SameLoans, new_link}
 use Rattle.table.specs.State.{blank_link}
 use Rattle.table.proofs.memory.Memory.lay.Given as goal

@@ -1,4 +1,4 @@
-use Rattle.std.proofs.Common.{◌≡◌, ℕ, suc, ◌+◌, ◌≤◌, min, max, get_or, drop}
+use Rattle.std.proofs.Common.{◌≡◌, suc, ◌+◌, ◌≤◌, min, max, get_or, drop}
 use Rattle.table.specs.State.{state_of, walked, highest, all_lines}
 use Rattle.table.proofs.memory.Memory.measure.Given as goal
 

@@ -1,7 +1,7 @@
-use Rattle.std.proofs.Common.{◌≡◌, length, take, sym, refl, ap, ◌∙◌, subst, arith}
+use Rattle.std.proofs.Common.{◌≡◌, length, take, refl, ap, ◌∙◌, subst, arith}
 use Rattle.draft.specs.Fits.{kids as draft_kids}
 use Rattle.table.specs.Grows.{Grown, new_link}
-use Rattle.table.specs.Puts.{due_before, due_size, due_room, parts_of, node_of, kid_list}
+use Rattle.table.specs.Puts.{due_before, due_size, parts_of, node_of, kid_list}
 use Rattle.table.specs.State.{state_of, kids, total}
 use Rattle.table.proofs.Fitting.{ready, parts_fitting, fresh, small_places, idents_range, idents_within, room_there}
 use Rattle.table.proofs.Kept.{sound_grown}
