@@ -1,6 +1,6 @@
 -- A test that holds at the end of each line of descent. Assumes nothing.
-use Rattle.std.proofs.Common.{◌≡◌, ℕ, ◌<◌, Bool, true, false, List, [], ◌∷◌, length, get_or, Decides, sym, refl, ap, ◌∙◌, subst}
-use Rattle.std.proofs.lemmas.Bool.{both_ways, false≢true}
+use Rattle.std.proofs.Common.{◌≡◌, ℕ, ◌<◌, Bool, true, false, List, [], ◌∷◌, length, get_or, Decides, refl}
+use Rattle.std.proofs.lemmas.Bool.{false≢true}
 use Rattle.tree.specs.Lines.{Follow, end_of}
 use Rattle.table.specs.State.{State, node_at, children}
 use Rattle.marks.specs.Marks.{plain_kind, harmless, counted, IsConstant, IsPure}

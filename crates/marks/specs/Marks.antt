@@ -1,5 +1,5 @@
 -- The marks of a table: which expressions are constant, and which nodes are pure. Assumes nothing.
-use Rattle.std.specs.Prelude.{◌≡◌, ℕ, Bool, true, false, cond, ◌&&◌, List, [], ◌∷◌, ◌++◌, map, ◌==◌, nat_lt}
+use Rattle.std.specs.Prelude.{◌≡◌, ℕ, Bool, true, false, cond, ◌&&◌, List, ◌++◌, map, ◌==◌, nat_lt}
 use Rattle.node.specs.Flags.{negated}
 use Rattle.kind.specs.Kinds.{stmt_number, expr_number}
 use Rattle.kind.specs.Shapes.{shape_of}

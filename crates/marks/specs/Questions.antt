@@ -1,16 +1,15 @@
 -- What is asked of a node beside its marks. Assumes nothing.
-use Rattle.std.specs.Prelude.{◌≡◌, ℕ, Bool, true, false, cond, ◌||◌, Ok, Err, Result}
+use Rattle.std.specs.Prelude.{ℕ, Bool, cond, ◌||◌, Err, Result}
 use Rattle.node.specs.declared.faults.TableFault.{TableFault}
 use Rattle.node.specs.declared.faults.TableFault.TheVariants.{Missing, Misfit}
 use Rattle.node.specs.declared.flags.ASTFlags.{ASTFlags}
 use Rattle.kind.specs.declared.kinds.ExprKind.TheVariants as expr
 use Rattle.kind.specs.declared.kinds.Kind.{Kind}
-use Rattle.kind.specs.declared.kinds.StmtKind.{StmtKind}
 use Rattle.kind.specs.declared.kinds.StmtKind.TheVariants as stmt
 use Rattle.node.specs.declared.records.Details.{Details}
 use Rattle.table.specs.Facts.{known, is_stmt}
 use Rattle.table.specs.Reads.{table_state}
-use Rattle.table.specs.State.{State, node_at}
+use Rattle.table.specs.State.{node_at}
 use Rattle.table.specs.declared.tables.Table.{Table}
 use Rattle.tree.specs.Answers.{told}
 use Rattle.marks.specs.Marks.{is_stmt_of, is_expr_of}

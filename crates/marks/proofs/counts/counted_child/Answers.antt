@@ -1,10 +1,10 @@
-use Rattle.std.proofs.Common.{◌≡◌, ◌+◌, ◌-◌, ◌/◌, ◌%◌, ◌<◌, ◌≤◌, length, get_or, sym, ap, ◌∙◌, ap₂, arith}
+use Rattle.std.proofs.Common.{◌≡◌, ◌+◌, ◌-◌, ◌/◌, ◌%◌, ◌<◌, ◌≤◌, length, get_or, sym, ap, ◌∙◌, arith}
 use Rattle.std.proofs.lemmas.Bool.{ltb-true}
 use Rattle.node.specs.declared.records.Node.{Node}
 use Rattle.table.specs.Facts.{kid}
 use Rattle.table.specs.Finds.{run_from, run_count}
 use Rattle.table.specs.Reads.{table_state, reference_at}
-use Rattle.table.specs.State.{node_at, links_of, arms_from, references, default_of, value_of}
+use Rattle.table.specs.State.{node_at, links_of, arms_from, references, default_of}
 use Rattle.marks.specs.Marks.{counted_blocks}
 use Rattle.marks.specs.Runs.{counted_count}
 use Rattle.marks.proofs.Links.{child_answer, counted_direct, counted_arm, counted_default, length_counted, reference_there, default_there}

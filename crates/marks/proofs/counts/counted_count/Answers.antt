@@ -1,4 +1,4 @@
-use Rattle.std.proofs.Common.{◌≡◌, ◌+◌, sym, ap, ◌∙◌, ap₂}
+use Rattle.std.proofs.Common.{◌+◌, sym, ap, ◌∙◌, ap₂}
 use Rattle.node.specs.declared.records.Node.{Node}
 use Rattle.table.specs.Reads.{table_state}
 use Rattle.table.specs.State.{node_at, links_of}

@@ -1,4 +1,4 @@
-use Rattle.std.proofs.Common.{◌≡◌, ℕ, true}
+use Rattle.std.proofs.Common.{◌≡◌, true}
 use Rattle.node.specs.declared.positions.Position.{Position}
 use Rattle.table.specs.Facts.{known, rank}
 use Rattle.table.specs.Reads.{table_state}
