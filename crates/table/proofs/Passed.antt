@@ -2,10 +2,11 @@
 use Rattle.std.proofs.Common.{◌≡◌, ℕ, ◌<◌, Bool, true, false, List, [], length, get_or, take, Some, None, Option, refl}
 use Rattle.std.specs.Option.{option_map}
 use Rattle.std.proofs.lemmas.Bool.{and_parts, eqb-true, ltb-true}
+use Rattle.draft.proofs.Conjuncts.{in_range_parts}
 use Rattle.draft.specs.Fits.{fits, handed, fits_head, fits_blocks, fits_extra, fits_value, fits_names}
 use Rattle.draft.specs.declared.drafts.Draft.{Draft}
 use Rattle.draft.specs.Details.{kind_of}
-use Rattle.draft.specs.Drafts.{in_range, runs_within, ident_in_range, ident_within}
+use Rattle.draft.specs.Drafts.{in_range, runs_within, ident_in_range, ident_within, kind_in_range}
 use Rattle.draft.specs.Lists.{all}
 use Rattle.draft.specs.declared.drafts.RawIdent.{RawIdent}
 use Rattle.kind.specs.Shapes.{shape_of}
@@ -71,3 +72,10 @@ text_passed text d idents e = and_parts _ _ (unless_none _ _ e)
 pub fit_passed : (text : List ℕ) (d : Draft) (places : List ℕ) (idents : List RawIdent) → due_fit text d places idents ≡ None
     → (fits (shape_of (kind_of d.kind)) d (length places) (length idents) ≡ true) × (extras_fit (shape_of (kind_of d.kind)).extra text d places idents ≡ true)
 fit_passed text d places idents e = and_parts _ _ (unless_none _ _ e)
+
+-- the kind is in range, and the counts come to the places that were handed in
+pub kind_passed : (d : Draft) (idents : List RawIdent) → due_range d idents ≡ None → kind_in_range d.kind ≡ true
+kind_passed d idents e = (in_range_parts d (range_passed d idents e).0).kind
+
+pub counts_passed : (text : List ℕ) (d : Draft) (places : List ℕ) (idents : List RawIdent) → due_fit text d places idents ≡ None → handed d ≡ length places
+counts_passed text d places idents e = (fit_parts (shape_of (kind_of d.kind)) d (length places) (length idents) (fit_passed text d places idents e).0).counted

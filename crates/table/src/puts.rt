@@ -165,6 +165,7 @@ impl Memory<'_> {
     }
 
     // The refusal that is due before any count is made.
+    #[tactic(auto, using(crate::proofs::Passed::kind_passed, crate::proofs::Passed::counts_passed, crate::proofs::Passed::known_passed))]
     pub(crate) fn refusal_before(
         &self,
         text: &[u8],
