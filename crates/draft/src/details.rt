@@ -1,5 +1,5 @@
 //! From the plain numbers of a draft to what is kept of it.
-ghost use Rattle.std.specs.Prelude.{◌≡◌, ◌<◌, ◌≤◌, true, ◌&&◌, if◌then◌else◌, Some, None, nat_lt};
+ghost use Rattle.std.specs.Prelude.{◌≡◌, ◌<◌, true, ◌&&◌, if◌then◌else◌, Some, None, nat_lt};
 ghost use Rattle.draft.specs.Details.{constant_of, details_of, flags_of, ident_of, kind_of, payload_of, position_of, run_of, second_of, small, small_constant, span_of, spans_of};
 ghost use Rattle.draft.specs.Drafts.{constant_in_range, constant_within, flags_in_range, ident_in_range, ident_within, if_given, in_range, kind_in_range, run_within, runs_within};
 ghost use Rattle.node.specs.Positions.{in_place, in_place_span};

@@ -1,6 +1,5 @@
 //! What a put is handed: plain numbers throughout, so that each out of range is a refusal.
 ghost use Rattle.draft.specs.Drafts.{constant_in_range, constant_within, flags_in_range, ident_in_range, ident_within, if_given, in_range, kind_in_range, run_within, runs_within};
-ghost use Rattle.node.specs.Positions.{in_place, in_place_span};
 ghost use Rattle.std.specs.Prelude.{◌≡◌, ℕ, Bool, true};
 
 use kind::kinds::{ExprKind, StmtKind};

@@ -1,5 +1,5 @@
 //! Whether the parts and data of a draft fit the shape of its kind.
-ghost use Rattle.draft.specs.Fits.{absent, default_fits, fits, fits_blocks, fits_extra, fits_head, fits_names, fits_value, given, handed, no_arms, same, value_number, with_position, without_position};
+ghost use Rattle.draft.specs.Fits.{default_fits, fits, fits_blocks, fits_extra, fits_head, fits_names, fits_value, given, handed, no_arms, same, value_number, with_position, without_position};
 ghost use Rattle.std.specs.Prelude.{◌≡◌, ◌==◌};
 
 use crate::drafts::{Draft, RawConstant, RawIdent};

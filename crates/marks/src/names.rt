@@ -1,8 +1,8 @@
 //! The names of variables.
-ghost use Rattle.marks.specs.Names.{Viewed, Beyond, qualified, run_in, TableNames, variable_name};
+ghost use Rattle.marks.specs.Names.{qualified, run_in, TableNames, variable_name};
 ghost use Rattle.node.specs.declared.faults.TableFault.{TableFault};
 ghost use Rattle.node.specs.declared.texts.View.{View};
-ghost use Rattle.std.specs.Prelude.{◌≡◌, Bool, Option, Result};
+ghost use Rattle.std.specs.Prelude.{◌≡◌, Option, Result};
 
 use crate::asks::is_expr_of;
 use kind::kinds::ExprKind;

@@ -1,5 +1,5 @@
 //! Where a node stands in the script, and where it starts.
-ghost use Rattle.std.specs.Prelude.{◌≡◌, ℕ, ◌+◌, ◌≤◌, true, false};
+ghost use Rattle.std.specs.Prelude.{◌≡◌, ◌+◌, true, false};
 ghost use Rattle.marks.specs.Positions.{Stands, Starts, at_namespace, block_start, goes_left, has_left, is_block, one_expression, own_position, own_start, shares};
 ghost use Rattle.node.specs.declared.positions.Position.{Position};
 ghost use Rattle.table.specs.Facts.{known};

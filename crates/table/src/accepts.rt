@@ -1,5 +1,5 @@
 //! Accepting a draft: the record of the node to be put, or the refusal that is due.
-ghost use Rattle.std.specs.Prelude.{◌≡◌, ℕ, ◌+◌, ◌<◌, ◌≤◌, min, ◌&&◌, length, Some, None, MatchResult, nat_le, nat_lt};
+ghost use Rattle.std.specs.Prelude.{◌≡◌, ◌+◌, ◌<◌, ◌≤◌, min, ◌&&◌, length, Some, None, MatchResult, nat_le, nat_lt};
 ghost use Rattle.node.specs.declared.faults.TableFault.TheVariants.{Full};
 ghost use Rattle.table.specs.Facts.{Sound};
 ghost use Rattle.table.specs.Grows.{SameLoans};

@@ -1,5 +1,5 @@
 //! The tests of a put on the children that are handed in, and what they come to.
-ghost use Rattle.std.specs.Prelude.{◌≡◌, ℕ, ◌+◌, ◌<◌, ◌≤◌, Bool, ◌&&◌, [], length, ◌==◌, nat_le, nat_lt, slice_index};
+ghost use Rattle.std.specs.Prelude.{◌≡◌, ℕ, ◌<◌, ◌&&◌, [], length, ◌==◌, nat_le, nat_lt, slice_index};
 ghost use Rattle.draft.specs.Fits.{same};
 ghost use Rattle.table.specs.Facts.{is_stmt, known};
 ghost use Rattle.table.specs.State.{node_at, state_of, up_number};

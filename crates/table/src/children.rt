@@ -1,6 +1,5 @@
 //! Where a node's children stand among its links.
-ghost use Rattle.std.specs.Prelude.{◌≡◌, ℕ, ◌+◌, ◌-◌, ◌<◌, ◌≤◌, ◌++◌, length, get_or, slice_index, slice_index_or};
-ghost use Rattle.kind.specs.Shapes.{shape_of};
+ghost use Rattle.std.specs.Prelude.{◌≡◌, ℕ, ◌+◌, ◌-◌, ◌<◌, ◌≤◌, length, get_or, slice_index, slice_index_or};
 ghost use Rattle.table.specs.Finds.{arm_count, child_count, run_count, run_from};
 ghost use Rattle.table.specs.State.{arms_from, blank_link, default_of, kids, links_of, referred, references, state_of, total, walked};
 

@@ -4,7 +4,7 @@ ghost use Rattle.draft.specs.Details.{ident_of};
 ghost use Rattle.draft.specs.Drafts.{ident_in_range, ident_within};
 ghost use Rattle.draft.specs.Lists.{all};
 ghost use Rattle.table.specs.Grows.{Grown, SameLoans, adopted, new_link, with_up};
-ghost use Rattle.table.specs.State.{blank, blank_ident, blank_link, node_at, state_of};
+ghost use Rattle.table.specs.State.{blank, blank_ident, blank_link, state_of};
 
 use crate::memory::Memory;
 use draft::drafts::RawIdent;

@@ -1,7 +1,7 @@
 //! Putting a node: the refusals in the order of their numbers, then the writes.
 ghost use Rattle.std.specs.Prelude.{◌≡◌, ℕ, ◌<◌, true, length, drop, slice_index};
 ghost use Rattle.draft.specs.Details.{kind_of};
-ghost use Rattle.draft.specs.Drafts.{in_range, kind_in_range};
+ghost use Rattle.draft.specs.Drafts.{kind_in_range};
 ghost use Rattle.draft.specs.Fits.{handed, kids as draft_kids};
 ghost use Rattle.table.specs.Facts.{NodesFit};
 ghost use Rattle.table.specs.Puts.{due_before, due_fit, due_held, due_known, due_place, due_range, due_text, extras_fit, keys_fit, kid_list, stored_due};

@@ -2,7 +2,7 @@
 ghost use Rattle.node.specs.declared.faults.TableFault.TheVariants.{Missing};
 ghost use Rattle.table.specs.Facts.{Sound, kid, known};
 ghost use Rattle.table.specs.Reads.{has_kid, has_link, has_reference, ident_at, reference_at, table_state};
-ghost use Rattle.table.specs.State.{kids, node_at, references, state_of, total};
+ghost use Rattle.table.specs.State.{node_at, state_of};
 ghost use Rattle.table.specs.Told.{IsHeight, IsLines};
 ghost use Rattle.tree.specs.Answers.{told};
 ghost use Rattle.std.specs.Prelude.{◌≡◌};

@@ -1,5 +1,5 @@
 //! Which places were named so far: a mark for each place that a table may have.
-ghost use Rattle.std.specs.Prelude.{◌≡◌, ℕ, ◌<◌, true, false, length, ◌≢◌, slice_index_or};
+ghost use Rattle.std.specs.Prelude.{◌≡◌, ℕ, ◌<◌, true, false, ◌≢◌, slice_index_or};
 
 /// A mark for each of the 4,096 places.
 #[derive(Drop)]

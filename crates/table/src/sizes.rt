@@ -1,11 +1,11 @@
 //! What a draft comes to: its parts as they are kept, its height and lines, and the room that it needs.
-ghost use Rattle.std.specs.Prelude.{◌≡◌, ℕ, ◌+◌, ◌<◌, ◌≤◌, ◌&&◌, Some, None, MatchResult, nat_le};
+ghost use Rattle.std.specs.Prelude.{◌≡◌, ◌+◌, ◌<◌, ◌≤◌, ◌&&◌, Some, None, MatchResult, nat_le};
 ghost use Rattle.draft.specs.Details.{details_of};
 ghost use Rattle.node.specs.declared.faults.TableFault.TheVariants.{Size};
 ghost use Rattle.node.specs.declared.records.Up.TheVariants.{Nothing};
 ghost use Rattle.table.specs.Facts.{Sound};
 ghost use Rattle.table.specs.Fresh.{Ready};
-ghost use Rattle.table.specs.Puts.{due_size, height_of, lines_of, parts_of, shared_of};
+ghost use Rattle.table.specs.Puts.{due_size, height_of, lines_of, shared_of};
 ghost use Rattle.table.specs.State.{state_of};
 
 use crate::measures::Measure;

@@ -1,5 +1,5 @@
 //! Making a path and reading it, and one name more or less on it.
-ghost use Rattle.std.specs.Prelude.{◌≡◌, ◌+◌, ◌<◌, ◌≤◌, min, [], ◌∷◌, ◌++◌, length, take, MatchResult};
+ghost use Rattle.std.specs.Prelude.{◌≡◌, ◌+◌, ◌<◌, ◌≤◌, [], ◌∷◌, ◌++◌, length, take, MatchResult};
 ghost use Rattle.tree.specs.Faults.{path_layer, path_number};
 ghost use Rattle.tree.specs.Paths.{Popped, Pushed, SameMemory, capacity_of, names_of};
 ghost use Rattle.tree.specs.declared.limits.Memory.TheVariants.{Path};

@@ -1,5 +1,4 @@
 //! What a visitor is: a rule, and calls that follow it.
-ghost use Rattle.tree.specs.Lines.{TreeLaw};
 ghost use Rattle.std.specs.Prelude.{◌≡◌, Bool, List};
 
 use crate::trees::Tree;
