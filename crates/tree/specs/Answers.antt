@@ -1,6 +1,11 @@
--- How a question is answered: with the one right answer where a test holds, else with a fault. Assumes nothing.
-use Rattle.std.specs.Prelude.{Bool, true, false, Ok, Err, Result}
+-- How a question is answered: with the one right answer where a test holds, else with a fault. And how a call that only
+-- tests ends: with a refusal where one is due, else with nothing. Assumes nothing.
+use Rattle.std.specs.Prelude.{Bool, true, false, Ok, Err, Result, Some, None, Option}
 
 abbrev pub told : {A F : Type 0} → Bool → A → F → Result A F
 told true a f = Ok a
 told false a f = Err f
+
+abbrev pub passed_unless : {F : Type 0} → Option F → Result (Unit {0}) F
+passed_unless None = Ok tt
+passed_unless (Some f) = Err f
