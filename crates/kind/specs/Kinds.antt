@@ -1,5 +1,6 @@
 -- The kinds, their numbers and their names. Assumes nothing.
-use Rattle.std.specs.Prelude.{ℕ, Bool, true, false, cond, List, [], ◌∷◌, Some, None, codes, Option, slice_index_or}
+use Rattle.std.specs.Prelude.{ℕ, Bool, true, false, List, [], ◌∷◌, codes, Option, slice_index_or}
+use Rattle.std.specs.List.{find}
 use Rattle.std.specs.Str.{bytes_eq}
 use Rattle.kind.specs.declared.kinds.Kind.{Kind}
 use Rattle.kind.specs.declared.kinds.Kind.TheVariants as kind
@@ -116,8 +117,7 @@ expr_name expr.Custom = codes "Custom"
 
 -- the first of some kinds with this name
 abbrev pub named : {K : Type 0} → (K → List ℕ) → List K → List ℕ → Option K
-named name [] bs = None
-named name (k ∷ ks) bs = cond (bytes_eq (name k) bs) (Some k) (named name ks bs)
+named name ks bs = find (λ k. bytes_eq (name k) bs) ks
 
 abbrev pub stmt_named : List ℕ → Option StmtKind
 stmt_named bs = named stmt_name stmts bs

@@ -1,14 +1,17 @@
 //! The kinds of statements and expressions, numbered from 0 in the order of the Rust's enums.
-ghost use Rattle.std.specs.Prelude.{◌≡◌, ◌==◌, ℕ, List, if◌then◌else◌, Some, None, Decides, nat_lt};
+ghost use Rattle.std.specs.Prelude.{◌≡◌, ℕ, List, if◌then◌else◌, Some, Ok, Err, nat_lt};
 ghost use Rattle.kind.specs.Kinds.{expr_at, expr_name, expr_named, expr_number, is_stmt, kind_name, named, stmt_at, stmt_name, stmt_named, stmt_number};
-ghost use Rattle.std.specs.Cmp.Rules.{comparing};
-ghost use Rattle.std.proofs.Common.{rules};
-ghost use Rattle.std.specs.Cmp as Keys;
 
 use std::fmt;
 
+/// A number that no kind of its enum has.
+#[derive(Clone, Copy, PartialEq, Eq, Debug)]
+pub struct NoKind {
+    pub number: u32,
+}
+
 /// The kinds of statements.
-#[derive(Clone, Copy, Eq, Debug)]
+#[derive(Clone, Copy, PartialEq, Eq, Debug)]
 pub enum StmtKind {
     Noop,
     If,
@@ -58,51 +61,7 @@ impl StmtKind {
     pub fn number(self) -> u32
         ensures { result ≡ stmt_number self }
     {
-        match self {
-            StmtKind::Noop => 0,
-            StmtKind::If => 1,
-            StmtKind::Switch => 2,
-            StmtKind::While => 3,
-            StmtKind::Do => 4,
-            StmtKind::For => 5,
-            StmtKind::Var => 6,
-            StmtKind::Assignment => 7,
-            StmtKind::FnCall => 8,
-            StmtKind::Block => 9,
-            StmtKind::TryCatch => 10,
-            StmtKind::Expr => 11,
-            StmtKind::BreakLoop => 12,
-            StmtKind::Return => 13,
-            StmtKind::Import => 14,
-            StmtKind::Export => 15,
-            StmtKind::Share => 16,
-        }
-    }
-
-    /// The kind of a number; none where there is no such kind.
-    pub fn from_number(number: u32) -> Option<StmtKind>
-        ensures { result ≡ (if nat_lt number 17 then Some (stmt_at number) else None) }
-    {
-        match number {
-            0 => Some(StmtKind::Noop),
-            1 => Some(StmtKind::If),
-            2 => Some(StmtKind::Switch),
-            3 => Some(StmtKind::While),
-            4 => Some(StmtKind::Do),
-            5 => Some(StmtKind::For),
-            6 => Some(StmtKind::Var),
-            7 => Some(StmtKind::Assignment),
-            8 => Some(StmtKind::FnCall),
-            9 => Some(StmtKind::Block),
-            10 => Some(StmtKind::TryCatch),
-            11 => Some(StmtKind::Expr),
-            12 => Some(StmtKind::BreakLoop),
-            13 => Some(StmtKind::Return),
-            14 => Some(StmtKind::Import),
-            15 => Some(StmtKind::Export),
-            16 => Some(StmtKind::Share),
-            _ => None,
-        }
+        self as u32
     }
 
     /// Its name.
@@ -139,16 +98,15 @@ impl StmtKind {
     }
 }
 
-impl PartialEq for StmtKind {
-    ghost eq = { λ a b. stmt_number a == stmt_number b };
+/// The kind of a number.
+impl TryFrom<u32> for StmtKind {
+    type Error = NoKind;
 
-    ghost laws = { Keys.partial_equiv_from_equiv (Prim.search (comparing, rules)) };
+    ghost try_from_gives = { λ number r. r ≡ (if nat_lt number 17 then Ok (stmt_at number) else Err (record { number = number })) };
 
-    fn eq(&self, other: &StmtKind) -> bool
-        ensures answer { result ≡ (stmt_number self.now == stmt_number other.now) }
-        ensures decides { Decides result (self.now ≡ other.now) }
-    {
-        self.number() == other.number()
+    fn try_from(number: u32) -> Result<StmtKind, NoKind> {
+        let kind = StmtKind::ALL.get(number as usize);
+        kind.copied().ok_or(NoKind { number })
     }
 }
 
@@ -169,7 +127,7 @@ impl fmt::Display for StmtKind {
 }
 
 /// The kinds of expressions.
-#[derive(Clone, Copy, Eq, Debug)]
+#[derive(Clone, Copy, PartialEq, Eq, Debug)]
 pub enum ExprKind {
     DynamicConstant,
     BoolConstant,
@@ -229,61 +187,7 @@ impl ExprKind {
     pub fn number(self) -> u32
         ensures { result ≡ expr_number self }
     {
-        match self {
-            ExprKind::DynamicConstant => 0,
-            ExprKind::BoolConstant => 1,
-            ExprKind::IntegerConstant => 2,
-            ExprKind::FloatConstant => 3,
-            ExprKind::CharConstant => 4,
-            ExprKind::StringConstant => 5,
-            ExprKind::InterpolatedString => 6,
-            ExprKind::Array => 7,
-            ExprKind::Map => 8,
-            ExprKind::Unit => 9,
-            ExprKind::Variable => 10,
-            ExprKind::ThisPtr => 11,
-            ExprKind::Property => 12,
-            ExprKind::MethodCall => 13,
-            ExprKind::Stmt => 14,
-            ExprKind::FnCall => 15,
-            ExprKind::Dot => 16,
-            ExprKind::Index => 17,
-            ExprKind::And => 18,
-            ExprKind::Or => 19,
-            ExprKind::Coalesce => 20,
-            ExprKind::Custom => 21,
-        }
-    }
-
-    /// The kind of a number; none where there is no such kind.
-    pub fn from_number(number: u32) -> Option<ExprKind>
-        ensures { result ≡ (if nat_lt number 22 then Some (expr_at number) else None) }
-    {
-        match number {
-            0 => Some(ExprKind::DynamicConstant),
-            1 => Some(ExprKind::BoolConstant),
-            2 => Some(ExprKind::IntegerConstant),
-            3 => Some(ExprKind::FloatConstant),
-            4 => Some(ExprKind::CharConstant),
-            5 => Some(ExprKind::StringConstant),
-            6 => Some(ExprKind::InterpolatedString),
-            7 => Some(ExprKind::Array),
-            8 => Some(ExprKind::Map),
-            9 => Some(ExprKind::Unit),
-            10 => Some(ExprKind::Variable),
-            11 => Some(ExprKind::ThisPtr),
-            12 => Some(ExprKind::Property),
-            13 => Some(ExprKind::MethodCall),
-            14 => Some(ExprKind::Stmt),
-            15 => Some(ExprKind::FnCall),
-            16 => Some(ExprKind::Dot),
-            17 => Some(ExprKind::Index),
-            18 => Some(ExprKind::And),
-            19 => Some(ExprKind::Or),
-            20 => Some(ExprKind::Coalesce),
-            21 => Some(ExprKind::Custom),
-            _ => None,
-        }
+        self as u32
     }
 
     /// Its name.
@@ -325,16 +229,15 @@ impl ExprKind {
     }
 }
 
-impl PartialEq for ExprKind {
-    ghost eq = { λ a b. expr_number a == expr_number b };
+/// The kind of a number.
+impl TryFrom<u32> for ExprKind {
+    type Error = NoKind;
 
-    ghost laws = { Keys.partial_equiv_from_equiv (Prim.search (comparing, rules)) };
+    ghost try_from_gives = { λ number r. r ≡ (if nat_lt number 22 then Ok (expr_at number) else Err (record { number = number })) };
 
-    fn eq(&self, other: &ExprKind) -> bool
-        ensures answer { result ≡ (expr_number self.now == expr_number other.now) }
-        ensures decides { Decides result (self.now ≡ other.now) }
-    {
-        self.number() == other.number()
+    fn try_from(number: u32) -> Result<ExprKind, NoKind> {
+        let kind = ExprKind::ALL.get(number as usize);
+        kind.copied().ok_or(NoKind { number })
     }
 }
 
@@ -366,10 +269,7 @@ impl Kind {
     pub fn is_stmt(self) -> bool
         ensures { result ≡ is_stmt self }
     {
-        match self {
-            Kind::Stmt(_) => true,
-            Kind::Expr(_) => false,
-        }
+        matches!(self, Kind::Stmt(_))
     }
 
     /// Its name within its enum.
@@ -403,10 +303,6 @@ trait Named {
 fn find<K: Named + Copy>(kinds: &[K], name: &[u8]) -> Option<K>
     ensures { result ≡ named K.label kinds.now name.now }
 {
-    for kind in kinds {
-        if kind.label().as_bytes() == name {
-            return Some(*kind);
-        }
-    }
-    None
+    let kind = kinds.iter().find(|kind| kind.label().as_bytes() == name);
+    kind.copied()
 }

@@ -5,7 +5,7 @@ ghost use Rattle.std.specs.Prelude.{◌≡◌};
 use crate::kinds::{ExprKind, Kind, StmtKind};
 
 /// How many expressions a kind takes as its head.
-#[derive(Clone, Copy)]
+#[derive(Clone, Copy, PartialEq, Eq, Debug)]
 pub enum Head {
     /// None.
     None,
@@ -21,11 +21,9 @@ pub enum Head {
     Some,
 }
 
-/// Which lists of statements a kind takes, and which of its parts are walked.
-#[derive(Clone, Copy)]
+/// Which lists of statements a kind takes, and which of its parts are walked. At a kind without one the head is walked.
+#[derive(Clone, Copy, PartialEq, Eq, Debug)]
 pub enum Blocks {
-    /// No list: the head is walked.
-    None,
     /// One list of statements, walked.
     List,
     /// A body and a branch, walked after the head.
@@ -37,10 +35,8 @@ pub enum Blocks {
 }
 
 /// What a kind has beside head and blocks.
-#[derive(Clone, Copy)]
+#[derive(Clone, Copy, PartialEq, Eq, Debug)]
 pub enum Extra {
-    /// Nothing.
-    None,
     /// A key for each expression of its head.
     Keys,
     /// Arms, references to them and perhaps a default.
@@ -50,10 +46,8 @@ pub enum Extra {
 }
 
 /// Which constant a kind takes.
-#[derive(Clone, Copy)]
+#[derive(Clone, Copy, PartialEq, Eq, Debug)]
 pub enum Value {
-    /// None.
-    None,
     /// A value of the store.
     Stored,
     /// A Boolean.
@@ -69,10 +63,8 @@ pub enum Value {
 }
 
 /// Which names a kind takes.
-#[derive(Clone, Copy)]
+#[derive(Clone, Copy, PartialEq, Eq, Debug)]
 pub enum Names {
-    /// None.
-    None,
     /// A name without a position of its own.
     Plain,
     /// The same, and perhaps the position of a namespace.
@@ -86,13 +78,13 @@ pub enum Names {
 }
 
 /// The shape of a kind: which parts and which data it takes.
-#[derive(Clone, Copy)]
+#[derive(Clone, Copy, PartialEq, Eq, Debug)]
 pub struct Shape {
     pub head: Head,
-    pub blocks: Blocks,
-    pub extra: Extra,
-    pub value: Value,
-    pub names: Names,
+    pub blocks: Option<Blocks>,
+    pub extra: Option<Extra>,
+    pub value: Option<Value>,
+    pub names: Option<Names>,
     /// Whether it takes a set of flags.
     pub flags: bool,
     /// Whether it takes a position of its own.
@@ -107,10 +99,10 @@ impl Shape {
     {
         Shape {
             head,
-            blocks: Blocks::None,
-            extra: Extra::None,
-            value: Value::None,
-            names: Names::None,
+            blocks: None,
+            extra: None,
+            value: None,
+            names: None,
             flags: false,
             position: true,
         }
@@ -119,25 +111,37 @@ impl Shape {
     fn blocks(self, blocks: Blocks) -> Shape
         ensures { result ≡ with_blocks blocks self }
     {
-        Shape { blocks, ..self }
+        Shape {
+            blocks: Some(blocks),
+            ..self
+        }
     }
 
     fn extra(self, extra: Extra) -> Shape
         ensures { result ≡ with_extra extra self }
     {
-        Shape { extra, ..self }
+        Shape {
+            extra: Some(extra),
+            ..self
+        }
     }
 
     fn value(self, value: Value) -> Shape
         ensures { result ≡ with_value value self }
     {
-        Shape { value, ..self }
+        Shape {
+            value: Some(value),
+            ..self
+        }
     }
 
     fn names(self, names: Names) -> Shape
         ensures { result ≡ with_names names self }
     {
-        Shape { names, ..self }
+        Shape {
+            names: Some(names),
+            ..self
+        }
     }
 
     fn flagged(self) -> Shape
