@@ -1,4 +1,5 @@
 pub mod Faults
 pub mod Flags
+pub mod Parts
 pub mod Positions
 pub mod Texts

@@ -134,10 +134,7 @@ impl<T, F> At<T, F> for Result<T, F> {
     ghost adds = { added };
 
     fn at(self, place: usize) -> Result<T, Lower<F>> {
-        match self {
-            Ok(x) => Ok(x),
-            Err(fault) => Err(Lower { fault, place }),
-        }
+        self.map_err(|fault| Lower { fault, place })
     }
 }
 

@@ -3,6 +3,7 @@
 
 pub mod faults;
 pub mod flags;
+pub mod parts;
 pub mod positions;
 pub mod records;
 pub mod texts;

@@ -1,6 +1,6 @@
 //! Positions in a script: a line and a column, or none.
 ghost use Rattle.node.specs.Positions.{begins_line, brief, column_of, in_place, in_place_span, is_none, is_none_span, line_of, or_else, placed, placed_span, position_at, span_text, worded};
-ghost use Rattle.std.specs.Prelude.{◌≡◌, Bool, if◌then◌else◌, Some, None};
+ghost use Rattle.std.specs.Prelude.{◌≡◌, Bool, true, false, Some, MatchResult};
 
 use crate::faults::TableFault;
 use std::fmt;
@@ -229,29 +229,37 @@ impl Ranged for RawSpan {
     }
 }
 
-impl RawPosition {
-    /// The position of numbers in range; none where they are out of it.
-    pub fn position(self) -> Option<Position>
-        ensures { result ≡ (if in_place self then Some (placed self) else None) }
-    {
-        if self.in_range() {
-            Some(Position {
-                line: self.line as u16,
-                pos: self.column as u16,
+/// Numbers that are out of range, or too large to be kept.
+#[derive(Clone, Copy, PartialEq, Eq, Debug)]
+pub struct OutOfRange;
+
+/// The position of numbers in range.
+impl TryFrom<RawPosition> for Position {
+    type Error = OutOfRange;
+
+    ghost try_from_gives = { λ raw r. MatchResult r (λ p. (in_place raw ≡ true) × (p ≡ placed raw)) (λ _. in_place raw ≡ false) };
+
+    fn try_from(raw: RawPosition) -> Result<Position, OutOfRange> {
+        if raw.in_range() {
+            Ok(Position {
+                line: raw.line as u16,
+                pos: raw.column as u16,
             })
         } else {
-            None
+            Err(OutOfRange)
         }
     }
 }
 
-impl RawSpan {
-    /// The span of positions in range; none where one is out of it.
-    pub fn span(self) -> Option<Span>
-        ensures { result ≡ (if in_place_span self then Some (placed_span self) else None) }
-    {
-        let start = self.start.position()?;
-        let end = self.end.position()?;
-        Some(Span { start, end })
+/// The span of two positions in range.
+impl TryFrom<RawSpan> for Span {
+    type Error = OutOfRange;
+
+    ghost try_from_gives = { λ raw r. MatchResult r (λ s. (in_place_span raw ≡ true) × (s ≡ placed_span raw)) (λ _. in_place_span raw ≡ false) };
+
+    fn try_from(raw: RawSpan) -> Result<Span, OutOfRange> {
+        let start = Position::try_from(raw.start)?;
+        let end = Position::try_from(raw.end)?;
+        Ok(Span { start, end })
     }
 }

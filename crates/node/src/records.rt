@@ -4,21 +4,21 @@ use crate::positions::{Position, Span};
 use kind::kinds::Kind;
 
 /// A run of a table's text.
-#[derive(Clone, Copy)]
+#[derive(Clone, Copy, PartialEq, Debug)]
 pub struct Run {
     pub start: u16,
     pub len: u16,
 }
 
 /// A name, with its position where it has one.
-#[derive(Clone, Copy)]
+#[derive(Clone, Copy, PartialEq, Debug)]
 pub struct Ident {
     pub name: Run,
     pub pos: Position,
 }
 
 /// A constant: a value of the store by its place, or the content itself.
-#[derive(Clone, Copy)]
+#[derive(Clone, Copy, PartialEq, Debug)]
 pub enum Constant {
     Stored(u16),
     Bool(bool),
@@ -29,36 +29,34 @@ pub enum Constant {
 }
 
 /// What only some kinds have: a constant, or the spans of blocks.
-#[derive(Clone, Copy)]
+#[derive(Clone, Copy, PartialEq, Debug)]
 pub enum Payload {
-    Nothing,
     Constant(Constant),
     Spans(Span, Span),
 }
 
 /// What only some kinds have behind a first name.
-#[derive(Clone, Copy)]
+#[derive(Clone, Copy, PartialEq, Debug)]
 pub enum Second {
-    Nothing,
     Name(Ident),
     Namespace(Position),
     Default(u16),
 }
 
 /// What a node is, beside its parts.
-#[derive(Clone, Copy)]
+#[derive(Clone, Copy, PartialEq, Debug)]
 pub struct Details {
     pub kind: Kind,
     pub flags: ASTFlags,
     pub position: Position,
-    pub payload: Payload,
+    pub payload: Option<Payload>,
     pub first: Option<Ident>,
-    pub second: Second,
+    pub second: Option<Second>,
 }
 
 /// Where a node's run of links begins, and how many of it belong to each part, in this order:
 /// head, body, branch, arms (two links each), value references, range references, shared names.
-#[derive(Clone, Copy)]
+#[derive(Clone, Copy, PartialEq, Debug)]
 pub struct Parts {
     pub start: u16,
     pub head: u16,
@@ -71,25 +69,24 @@ pub struct Parts {
 }
 
 /// What a node stands under.
-#[derive(Clone, Copy)]
+#[derive(Clone, Copy, PartialEq, Debug)]
 pub enum Up {
-    Nothing,
     Node(u16),
     Script,
 }
 
 /// A node's record.
-#[derive(Clone, Copy)]
+#[derive(Clone, Copy, PartialEq, Debug)]
 pub struct Node {
     pub details: Details,
     pub parts: Parts,
-    pub up: Up,
+    pub up: Option<Up>,
     pub height: u16,
     pub lines: u16,
 }
 
 /// A link: the place of a child or the number of an arm, with the key or the shared name that belongs to it.
-#[derive(Clone, Copy)]
+#[derive(Clone, Copy, PartialEq, Debug)]
 pub struct Link {
     pub place: u16,
     pub ident: Ident,

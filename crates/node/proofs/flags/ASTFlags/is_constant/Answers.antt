@@ -1,6 +1,7 @@
-use Rattle.std.proofs.Common.{◌∙◌}
-use Rattle.node.proofs.Digits.{flag_1}
+use Rattle.std.proofs.Common.{◌∙◌, refl}
+use lib.Bits.{and_high}
+use Rattle.node.proofs.Digits.{flag}
 use Rattle.node.proofs.flags.ASTFlags.is_constant.Goals as goal
 
 pub returns : goal.returns
-returns c = c.contains.ensures ∙ flag_1 c.args.self.bits
+returns c = c.contains.ensures ∙ flag 1 c.args.self.bits (and_high c.args.self.bits 1 0) refl refl

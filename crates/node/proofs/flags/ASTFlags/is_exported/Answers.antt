@@ -1,6 +1,7 @@
-use Rattle.std.proofs.Common.{◌∙◌}
-use Rattle.node.proofs.Digits.{flag_2}
+use Rattle.std.proofs.Common.{◌∙◌, refl}
+use lib.Bits.{and_high}
+use Rattle.node.proofs.Digits.{flag}
 use Rattle.node.proofs.flags.ASTFlags.is_exported.Goals as goal
 
 pub returns : goal.returns
-returns c = c.contains.ensures ∙ flag_2 c.args.self.bits
+returns c = c.contains.ensures ∙ flag 2 c.args.self.bits (and_high c.args.self.bits 1 1) refl refl
