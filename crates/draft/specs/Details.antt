@@ -1,9 +1,9 @@
 -- What is kept of a draft. Assumes nothing.
 use Rattle.std.specs.Prelude.{ℕ, Bool, true, ◌&&◌, Some, None, Option, ◌==◌, nat_lt}
 use Rattle.std.specs.Option.{option_map}
-use Rattle.draft.specs.Drafts.{if_given}
 use Rattle.kind.specs.Kinds.{stmt_at, expr_at}
-use Rattle.node.specs.Positions.{none, placed, placed_span}
+use Rattle.draft.specs.Drafts.{constant_in_range, constant_within, ident_in_range, ident_within, in_range, runs_within}
+use Rattle.node.specs.Positions.{if_given, in_place, in_place_span, none, placed, placed_span}
 use Rattle.draft.specs.declared.drafts.Draft.{Draft}
 use Rattle.draft.specs.declared.drafts.RawConstant.{RawConstant}
 use Rattle.draft.specs.declared.drafts.RawConstant.TheVariants as raw
@@ -62,26 +62,26 @@ abbrev pub span_of : Option RawSpan → Span
 span_of None = record { start = none; end = none }
 span_of (Some s) = placed_span s
 
-abbrev pub spans_of : Option RawSpan → Option RawSpan → Payload
-spans_of None branch = payload.Nothing
-spans_of (Some body) branch = payload.Spans (placed_span body) (span_of branch)
+abbrev pub spans_of : Option RawSpan → Option RawSpan → Option Payload
+spans_of None branch = None
+spans_of (Some body) branch = Some (payload.Spans (placed_span body) (span_of branch))
 
-abbrev pub payload_of : Option RawConstant → Option RawSpan → Option RawSpan → Payload
-payload_of (Some c) body branch = payload.Constant (constant_of c)
+abbrev pub payload_of : Option RawConstant → Option RawSpan → Option RawSpan → Option Payload
+payload_of (Some c) body branch = Some (payload.Constant (constant_of c))
 payload_of None body branch = spans_of body branch
 
-abbrev pub default_of : Option ℕ → Second
-default_of None = second.Nothing
-default_of (Some arm) = second.Default arm
+abbrev pub default_of : Option ℕ → Option Second
+default_of None = None
+default_of (Some arm) = Some (second.Default arm)
 
-abbrev pub namespace_of : Option RawPosition → Option ℕ → Second
+abbrev pub namespace_of : Option RawPosition → Option ℕ → Option Second
 namespace_of None arm = default_of arm
-namespace_of (Some p) arm = second.Namespace (placed p)
+namespace_of (Some p) arm = Some (second.Namespace (placed p))
 
 -- a second name, the position of a namespace or a default arm: no kind has two of these
-abbrev pub second_of : Option RawIdent → Option RawPosition → Option ℕ → Second
+abbrev pub second_of : Option RawIdent → Option RawPosition → Option ℕ → Option Second
 second_of None p arm = namespace_of p arm
-second_of (Some i) p arm = second.Name (ident_of i)
+second_of (Some i) p arm = Some (second.Name (ident_of i))
 
 abbrev pub details_of : Draft → Details
 details_of d = record {
@@ -104,3 +104,21 @@ small_constant (raw.Text run) = true
 
 abbrev pub small : Draft → Bool
 small d = if_given small_constant d.constant && if_given (λ a. nat_lt a 65536) d.default
+
+-- whether all that a draft holds can be kept: every number is in range, small enough, and no run is too long for any text
+abbrev pub keepable : Draft → Bool
+keepable d = in_range d && runs_within 65535 d && small d
+
+-- the same of what becomes a constant or spans, of the first name, and of what comes behind it
+abbrev pub payload_kept : Draft → Bool
+payload_kept d =
+    if_given constant_in_range d.constant && if_given (constant_within 65535) d.constant && if_given small_constant d.constant
+    && if_given in_place_span d.body_span && if_given in_place_span d.branch_span
+
+abbrev pub first_kept : Draft → Bool
+first_kept d = if_given ident_in_range d.first && if_given (ident_within 65535) d.first
+
+abbrev pub second_kept : Draft → Bool
+second_kept d =
+    if_given ident_in_range d.second && if_given (ident_within 65535) d.second && if_given in_place d.namespace
+    && if_given (λ arm. nat_lt arm 65536) d.default

@@ -1,7 +1,7 @@
 -- When the numbers of a draft are in range, when its runs lie within the text, and what is kept of them.
 -- Assumes nothing.
 use Rattle.std.specs.Prelude.{ℕ, ◌+◌, Bool, true, ◌&&◌, ◌||◌, Some, None, Option, nat_le, nat_lt}
-use Rattle.node.specs.Positions.{in_place, in_place_span}
+use Rattle.node.specs.Positions.{if_given, in_place, in_place_span}
 use Rattle.draft.specs.declared.drafts.Draft.{Draft}
 use Rattle.draft.specs.declared.drafts.RawConstant.{RawConstant}
 use Rattle.draft.specs.declared.drafts.RawConstant.TheVariants as raw
@@ -10,11 +10,6 @@ use Rattle.draft.specs.declared.drafts.RawIdent.{RawIdent}
 use Rattle.draft.specs.declared.drafts.RawKind.{RawKind}
 use Rattle.draft.specs.declared.drafts.RawKind.TheVariants.{Stmt, Expr}
 use Rattle.draft.specs.declared.drafts.RawRun.{RawRun}
-
--- what holds of a datum where it is given
-abbrev pub if_given : {A : Type 0} → (A → Bool) → Option A → Bool
-if_given test None = true
-if_given test (Some x) = test x
 
 -- there are 17 kinds of statements and 22 of expressions
 abbrev pub kind_in_range : RawKind → Bool

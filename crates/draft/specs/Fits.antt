@@ -1,6 +1,7 @@
 -- When the parts and data of a draft fit the shape of its kind. Assumes nothing.
 use Rattle.std.specs.Prelude.{ℕ, ◌+◌, Bool, true, false, not, ◌&&◌, ◌||◌, is_some, Some, None, Option, ◌==◌, nat_le, nat_lt}
-use Rattle.draft.specs.Drafts.{if_given}
+use Rattle.node.specs.Positions.{if_given}
+use Rattle.std.specs.Option.{option_map}
 use Rattle.draft.specs.declared.drafts.Draft.{Draft}
 use Rattle.draft.specs.declared.drafts.RawConstant.{RawConstant}
 use Rattle.draft.specs.declared.drafts.RawConstant.TheVariants as raw
@@ -31,12 +32,12 @@ abbrev pub absent : {A : Type 0} → Option A → Bool
 absent o = not (is_some o)
 
 -- lists of statements stand only where the kind has them, and there each list has its span
-abbrev pub fits_blocks : Blocks → Draft → Bool
-fits_blocks blocks.None d = d.body == 0 && d.branch == 0 && absent d.body_span && absent d.branch_span
-fits_blocks blocks.List d = d.branch == 0 && is_some d.body_span && absent d.branch_span
-fits_blocks blocks.Walked d = is_some d.body_span && is_some d.branch_span
-fits_blocks blocks.Held d = is_some d.body_span && is_some d.branch_span
-fits_blocks blocks.Catch d = is_some d.body_span && is_some d.branch_span
+abbrev pub fits_blocks : Option Blocks → Draft → Bool
+fits_blocks None d = d.body == 0 && d.branch == 0 && absent d.body_span && absent d.branch_span
+fits_blocks (Some blocks.List) d = d.branch == 0 && is_some d.body_span && absent d.branch_span
+fits_blocks (Some blocks.Walked) d = is_some d.body_span && is_some d.branch_span
+fits_blocks (Some blocks.Held) d = is_some d.body_span && is_some d.branch_span
+fits_blocks (Some blocks.Catch) d = is_some d.body_span && is_some d.branch_span
 
 -- arms, references and a default stand only where the kind has arms
 abbrev pub no_arms : Draft → Bool
@@ -46,41 +47,43 @@ abbrev pub default_fits : Draft → Bool
 default_fits d = if_given (λ a. nat_lt a d.arms) d.default
 
 -- a default names an arm; keys are as many as the items, shared names at least one
-abbrev pub fits_extra : Extra → Draft → ℕ → Bool
-fits_extra extra.None d idents = no_arms d && idents == 0
-fits_extra extra.Keys d idents = no_arms d && idents == d.head
-fits_extra extra.Arms d idents = default_fits d && idents == 0
-fits_extra extra.Shared d idents = no_arms d && nat_le 1 idents
+abbrev pub fits_extra : Option Extra → Draft → ℕ → Bool
+fits_extra None d idents = no_arms d && idents == 0
+fits_extra (Some extra.Keys) d idents = no_arms d && idents == d.head
+fits_extra (Some extra.Arms) d idents = default_fits d && idents == 0
+fits_extra (Some extra.Shared) d idents = no_arms d && nat_le 1 idents
 
 -- which constant is given, and a number for each answer
-abbrev pub given : Option RawConstant → Value
-given None = value.None
-given (Some (raw.Stored place)) = value.Stored
-given (Some (raw.Bool b)) = value.Bool
-given (Some (raw.Integer i)) = value.Integer
-given (Some (raw.Float x)) = value.Float
-given (Some (raw.Char c)) = value.Char
-given (Some (raw.Text run)) = value.Text
+abbrev pub value_of : RawConstant → Value
+value_of (raw.Stored place) = value.Stored
+value_of (raw.Bool b) = value.Bool
+value_of (raw.Integer i) = value.Integer
+value_of (raw.Float x) = value.Float
+value_of (raw.Char c) = value.Char
+value_of (raw.Text run) = value.Text
 
-abbrev pub value_number : Value → ℕ
-value_number value.None = 0
-value_number value.Stored = 1
-value_number value.Bool = 2
-value_number value.Integer = 3
-value_number value.Float = 4
-value_number value.Char = 5
-value_number value.Text = 6
+abbrev pub value_number : Option Value → ℕ
+value_number None = 0
+value_number (Some value.Stored) = 1
+value_number (Some value.Bool) = 2
+value_number (Some value.Integer) = 3
+value_number (Some value.Float) = 4
+value_number (Some value.Char) = 5
+value_number (Some value.Text) = 6
 
 -- the constant is the one that the kind has
-abbrev pub fits_value : Value → Option RawConstant → Bool
-fits_value v c = value_number v == value_number (given c)
+abbrev pub fits_value : Option Value → Option RawConstant → Bool
+fits_value v c = value_number v == value_number (option_map value_of c)
 
 -- two answers agree
 abbrev pub same : Bool → Bool → Bool
 same true b = b
 same false b = not b
 
--- a name is given with its position, or without one
+-- a name has a position; a name is given with its position, or without one
+abbrev pub has_position : RawIdent → Bool
+has_position i = is_some i.pos
+
 abbrev pub with_position : Option RawIdent → Bool
 with_position None = false
 with_position (Some i) = is_some i.pos
@@ -90,13 +93,13 @@ without_position None = false
 without_position (Some i) = absent i.pos
 
 -- the names that the kind has
-abbrev pub fits_names : Names → Draft → Bool
-fits_names names.None d = absent d.first && absent d.second && absent d.namespace
-fits_names names.Plain d = without_position d.first && absent d.second && absent d.namespace
-fits_names names.Call d = without_position d.first && absent d.second
-fits_names names.One d = with_position d.first && absent d.second && absent d.namespace
-fits_names names.Counter d = with_position d.first && (absent d.second || with_position d.second) && absent d.namespace
-fits_names names.Two d = with_position d.first && with_position d.second && absent d.namespace
+abbrev pub fits_names : Option Names → Draft → Bool
+fits_names None d = absent d.first && absent d.second && absent d.namespace
+fits_names (Some names.Plain) d = without_position d.first && absent d.second && absent d.namespace
+fits_names (Some names.Call) d = without_position d.first && absent d.second
+fits_names (Some names.One) d = with_position d.first && absent d.second && absent d.namespace
+fits_names (Some names.Counter) d = with_position d.first && (absent d.second || with_position d.second) && absent d.namespace
+fits_names (Some names.Two) d = with_position d.first && with_position d.second && absent d.namespace
 
 -- how many children a draft has, and how many places are handed in with it
 abbrev pub kids : Draft → ℕ

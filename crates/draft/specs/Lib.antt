@@ -3,4 +3,3 @@ pub mod Details
 pub mod Drafts
 pub mod Fits
 pub mod Keys
-pub mod Lists

@@ -1,233 +1,174 @@
 //! From the plain numbers of a draft to what is kept of it.
-ghost use Rattle.std.specs.Prelude.{◌≡◌, ◌<◌, true, ◌&&◌, if◌then◌else◌, Some, None, nat_lt};
-ghost use Rattle.draft.specs.Details.{constant_of, details_of, flags_of, ident_of, kind_of, payload_of, position_of, run_of, second_of, small, small_constant, span_of, spans_of};
-ghost use Rattle.draft.specs.Drafts.{constant_in_range, constant_within, flags_in_range, ident_in_range, ident_within, if_given, in_range, kind_in_range, run_within, runs_within};
-ghost use Rattle.node.specs.Positions.{in_place, in_place_span};
+ghost use Rattle.std.specs.Prelude.{◌≡◌, true, false, ◌&&◌, Some, None, Ok, Err, MatchOption, MatchResult, nat_lt};
+ghost use Rattle.draft.specs.Details.{constant_of, details_of, first_kept, ident_of, keepable, kind_of, payload_kept, payload_of, run_of, second_kept, second_of, small_constant};
 ghost use Rattle.std.specs.Option.{option_map};
+ghost use Rattle.draft.specs.Drafts.{constant_in_range, constant_within, flags_in_range, ident_in_range, ident_within, kind_in_range, run_within};
+ghost use Rattle.node.specs.Positions.{if_given};
 
 use crate::drafts::{Draft, Lying, RawConstant, RawFlags, RawIdent, RawKind, RawRun};
 use kind::kinds::{ExprKind, Kind, StmtKind};
 use node::flags::ASTFlags;
-use node::positions::{Position, Ranged, RawPosition, RawSpan, Span};
+use node::positions::{OutOfRange, Position, Span};
 use node::records::{Constant, Details, Ident, Payload, Run, Second};
 
-impl RawKind {
-    /// The kind of a number in range.
-    fn typed(self) -> Kind
-        requires { kind_in_range self ≡ true }
-        ensures { result ≡ kind_of self }
-    {
-        match self {
-            RawKind::Stmt(number) => Kind::Stmt(StmtKind::from_number(number).unwrap()),
-            RawKind::Expr(number) => Kind::Expr(ExprKind::from_number(number).unwrap()),
-        }
+/// The kind of a number.
+impl TryFrom<RawKind> for Kind {
+    type Error = OutOfRange;
+
+    ghost try_from_gives = { λ raw r. MatchResult r (λ k. (kind_in_range raw ≡ true) × (k ≡ kind_of raw)) (λ _. kind_in_range raw ≡ false) };
+
+    fn try_from(raw: RawKind) -> Result<Kind, OutOfRange> {
+        Ok(match raw {
+            RawKind::Stmt(number) => Kind::Stmt(StmtKind::try_from(number)?),
+            RawKind::Expr(number) => Kind::Expr(ExprKind::try_from(number)?),
+        })
     }
 }
 
-impl RawRun {
-    fn typed(self) -> Run
-        requires { run_within 65535 self ≡ true }
-        ensures { result ≡ run_of self }
-    {
-        Run {
-            start: self.start as u16,
-            len: self.len as u16,
-        }
+/// The set of flags of a number.
+impl TryFrom<RawFlags> for ASTFlags {
+    type Error = OutOfRange;
+
+    ghost try_from_gives = { λ raw r. MatchResult r (λ f. (flags_in_range raw ≡ true) × (f.bits ≡ raw.bits)) (λ _. flags_in_range raw ≡ false) };
+
+    fn try_from(raw: RawFlags) -> Result<ASTFlags, OutOfRange> {
+        ASTFlags::from_bits(raw.bits).ok_or(OutOfRange)
     }
 }
 
-fn position_typed(given: Option<RawPosition>) -> Position
-    requires { if_given in_place given ≡ true }
-    ensures { result ≡ position_of given }
-{
-    match given {
-        Some(position) => position.position().unwrap(),
-        None => Position::NONE,
-    }
-}
+/// The run, where a text can be so long.
+impl TryFrom<RawRun> for Run {
+    type Error = OutOfRange;
 
-impl RawIdent {
-    fn typed(self) -> Ident
-        requires range { ident_in_range self ≡ true }
-        requires within { ident_within 65535 self ≡ true }
-        ensures { result ≡ ident_of self }
-    {
-        Ident {
-            name: self.name.typed(),
-            pos: position_typed(self.pos),
-        }
-    }
+    ghost try_from_gives = { λ raw r. MatchResult r (λ run. (run_within 65535 raw ≡ true) × (run ≡ run_of raw)) (λ _. run_within 65535 raw ≡ false) };
 
-    /// The name as it is kept; none where its position is out of range or its run too long for any text.
-    pub fn ident(self) -> Option<Ident>
-        ensures { result ≡ (if ident_in_range self && ident_within 65535 self then Some (ident_of self) else None) }
-    {
-        if self.in_range() & self.within(65535) {
-            Some(self.typed())
+    fn try_from(raw: RawRun) -> Result<Run, OutOfRange> {
+        if raw.within(65535) {
+            Ok(Run {
+                start: raw.start as u16,
+                len: raw.len as u16,
+            })
         } else {
-            None
+            Err(OutOfRange)
         }
     }
 }
 
-fn flags_typed(given: Option<RawFlags>) -> ASTFlags
-    requires { if_given flags_in_range given ≡ true }
-    ensures { result ≡ flags_of given }
+// What is given, as it is kept; else what stands where nothing is given.
+fn kept_or<R, K: TryFrom<R, Error = OutOfRange> + Drop>(
+    given: Option<R>,
+    nothing: K,
+) -> Result<K, OutOfRange>
+    ensures { MatchOption given (result ≡ Ok nothing) (λ raw. K.try_from_gives raw result) }
 {
     match given {
-        Some(flags) => ASTFlags::from_bits(flags.bits).unwrap(),
-        None => ASTFlags::NONE,
+        Some(raw) => K::try_from(raw),
+        None => Ok(nothing),
     }
 }
 
-fn char_typed(code: u32) -> char
-    requires { constant_in_range (RawConstant.Char code) ≡ true }
-    ensures { result ≡ code }
-{
-    char::from_u32(code).unwrap()
+/// The name, where its position is in range and a text can be so long.
+impl TryFrom<RawIdent> for Ident {
+    type Error = OutOfRange;
+
+    ghost try_from_gives = { λ raw r. MatchResult r (λ i. (ident_in_range raw ≡ true) × (ident_within 65535 raw ≡ true) × (i ≡ ident_of raw)) (λ _. (ident_in_range raw && ident_within 65535 raw) ≡ false) };
+
+    fn try_from(raw: RawIdent) -> Result<Ident, OutOfRange> {
+        Ok(Ident {
+            name: Run::try_from(raw.name)?,
+            pos: kept_or(raw.pos, Position::NONE)?,
+        })
+    }
 }
 
-impl RawConstant {
-    fn typed(self) -> Constant
-        requires range { constant_in_range self ≡ true }
-        requires within { constant_within 65535 self ≡ true }
-        requires small { small_constant self ≡ true }
-        ensures { result ≡ constant_of self }
-    {
-        match self {
-            RawConstant::Stored(place) => Constant::Stored(place as u16),
-            RawConstant::Bool(b) => Constant::Bool(b == 1),
+/// The constant, where its number is in range and small enough, and a text can be so long.
+impl TryFrom<RawConstant> for Constant {
+    type Error = OutOfRange;
+
+    ghost try_from_gives = { λ raw r. MatchResult r (λ c. (constant_in_range raw ≡ true) × (constant_within 65535 raw ≡ true) × (small_constant raw ≡ true) × (c ≡ constant_of raw)) (λ _. (constant_in_range raw && constant_within 65535 raw && small_constant raw) ≡ false) };
+
+    fn try_from(raw: RawConstant) -> Result<Constant, OutOfRange> {
+        Ok(match raw {
+            RawConstant::Stored(place) => Constant::Stored(u16::try_from(place).map_err(
+                |_| OutOfRange,
+            )?),
+            RawConstant::Bool(0) => Constant::Bool(false),
+            RawConstant::Bool(1) => Constant::Bool(true),
+            RawConstant::Bool(_) => return Err(OutOfRange),
             RawConstant::Integer(i) => Constant::Integer(i),
             RawConstant::Float(x) => Constant::Float(x),
-            RawConstant::Char(c) => Constant::Char(char_typed(c)),
-            RawConstant::Text(run) => Constant::Text(run.typed()),
-        }
+            RawConstant::Char(code) => Constant::Char(char::from_u32(code).ok_or(OutOfRange)?),
+            RawConstant::Text(run) => Constant::Text(Run::try_from(run)?),
+        })
     }
 }
 
-fn payload_typed(
-    constant: Option<RawConstant>,
-    body: Option<RawSpan>,
-    branch: Option<RawSpan>,
-) -> Payload
-    requires range { if_given constant_in_range constant ≡ true }
-    requires within { if_given (constant_within 65535) constant ≡ true }
-    requires small { if_given small_constant constant ≡ true }
-    requires body { if_given in_place_span body ≡ true }
-    requires branch { if_given in_place_span branch ≡ true }
-    ensures { result ≡ payload_of constant body branch }
-{
-    match constant {
-        Some(constant) => Payload::Constant(constant.typed()),
-        None => spans_typed(body, branch),
-    }
-}
-
-fn spans_typed(body: Option<RawSpan>, branch: Option<RawSpan>) -> Payload
-    requires body { if_given in_place_span body ≡ true }
-    requires branch { if_given in_place_span branch ≡ true }
-    ensures { result ≡ spans_of body branch }
-{
-    match body {
-        Some(body) => Payload::Spans(body.span().unwrap(), span_typed(branch)),
-        None => Payload::Nothing,
-    }
-}
-
-fn span_typed(given: Option<RawSpan>) -> Span
-    requires { if_given in_place_span given ≡ true }
-    ensures { result ≡ span_of given }
+// What is given, as it is kept; nothing where nothing is given.
+fn kept<R, K: TryFrom<R, Error = OutOfRange> + Drop>(
+    given: Option<R>,
+) -> Result<Option<K>, OutOfRange>
+    ensures { MatchOption given (result ≡ Ok None) (λ raw. MatchResult result (λ o. (k : K) × K.try_from_gives raw (Ok k) × (o ≡ Some k)) (λ e. K.try_from_gives raw (Err e))) }
 {
     match given {
-        Some(span) => span.span().unwrap(),
-        None => Span::NONE,
+        Some(raw) => Ok(Some(K::try_from(raw)?)),
+        None => Ok(None),
     }
 }
 
-fn ident_typed(given: Option<RawIdent>) -> Option<Ident>
-    requires range { if_given ident_in_range given ≡ true }
-    requires within { if_given (ident_within 65535) given ≡ true }
-    ensures { result ≡ option_map ident_of given }
+// The number of an arm, where it is small enough to be kept.
+fn default_kept(given: Option<usize>) -> Result<Option<u16>, OutOfRange>
+    ensures { MatchResult result (λ o. (if_given (λ arm. nat_lt arm 65536) given ≡ true) × (o ≡ given)) (λ _. if_given (λ arm. nat_lt arm 65536) given ≡ false) }
 {
     match given {
-        Some(ident) => Some(ident.typed()),
-        None => None,
-    }
-}
-
-fn second_typed(
-    name: Option<RawIdent>,
-    namespace: Option<RawPosition>,
-    default: Option<usize>,
-) -> Second
-    requires range { if_given ident_in_range name ≡ true }
-    requires within { if_given (ident_within 65535) name ≡ true }
-    requires namespace { if_given in_place namespace ≡ true }
-    requires small { if_given (λ a. nat_lt a 65536) default ≡ true }
-    ensures { result ≡ second_of name namespace default }
-{
-    if let Some(ident) = name {
-        return Second::Name(ident.typed());
-    }
-    if let Some(position) = namespace {
-        return Second::Namespace(position.position().unwrap());
-    }
-    match default {
-        Some(arm) => Second::Default(arm as u16),
-        None => Second::Nothing,
+        Some(arm) => Ok(Some(u16::try_from(arm).map_err(|_| OutOfRange)?)),
+        None => Ok(None),
     }
 }
 
 impl Draft {
-    // Whether a stored constant's place and a default arm's number fit where they are kept.
-    fn small(&self) -> bool
-        ensures { result ≡ small self.now }
+    // The constant, or the spans of blocks.
+    fn payload(&self) -> Result<Option<Payload>, OutOfRange>
+        ensures { MatchResult result (λ p. (payload_kept self.now ≡ true) × (p ≡ payload_of self.now.constant self.now.body_span self.now.branch_span)) (λ _. payload_kept self.now ≡ false) }
     {
-        small_constant(self.constant) & small_default(self.default)
+        let constant: Option<Constant> = kept(self.constant)?;
+        let body: Option<Span> = kept(self.body_span)?;
+        let branch = kept_or(self.branch_span, Span::NONE)?;
+        let spans = body.map(|body| Payload::Spans(body, branch));
+        Ok(constant.map(Payload::Constant).or(spans))
     }
 
-    fn typed(&self) -> Details
-        requires range { in_range self.now ≡ true }
-        requires within { runs_within 65535 self.now ≡ true }
-        requires small { small self.now ≡ true }
-        ensures { result ≡ details_of self.now }
+    // The first name.
+    fn first(&self) -> Result<Option<Ident>, OutOfRange>
+        ensures { MatchResult result (λ i. (first_kept self.now ≡ true) × (i ≡ option_map ident_of self.now.first)) (λ _. first_kept self.now ≡ false) }
     {
-        Details {
-            kind: self.kind.typed(),
-            flags: flags_typed(self.flags),
-            position: position_typed(self.position),
-            payload: payload_typed(self.constant, self.body_span, self.branch_span),
-            first: ident_typed(self.first),
-            second: second_typed(self.second, self.namespace, self.default),
-        }
+        kept(self.first)
     }
 
-    /// What is kept of it; none where a number is out of range or too large to be kept.
-    pub fn details(&self) -> Option<Details>
-        ensures { result ≡ (if in_range self.now && runs_within 65535 self.now && small self.now then Some (details_of self.now) else None) }
+    // A second name, the position of a namespace or a default arm.
+    fn second(&self) -> Result<Option<Second>, OutOfRange>
+        ensures { MatchResult result (λ s. (second_kept self.now ≡ true) × (s ≡ second_of self.now.second self.now.namespace self.now.default)) (λ _. second_kept self.now ≡ false) }
     {
-        if self.in_range() & self.within(65535) & self.small() {
-            Some(self.typed())
-        } else {
-            None
-        }
+        let name: Option<Ident> = kept(self.second)?;
+        let namespace: Option<Position> = kept(self.namespace)?;
+        let default = default_kept(self.default)?.map(Second::Default);
+        Ok(
+            name.map(Second::Name)
+                .or(namespace.map(Second::Namespace))
+                .or(default),
+        )
     }
-}
 
-fn small_constant(given: Option<RawConstant>) -> bool
-    ensures { result ≡ if_given small_constant given }
-{
-    match given {
-        Some(RawConstant::Stored(place)) => place < 65536,
-        _ => true,
-    }
-}
-
-fn small_default(given: Option<usize>) -> bool
-    ensures { result ≡ if_given (λ a. nat_lt a 65536) given }
-{
-    match given {
-        Some(arm) => arm < 65536,
-        None => true,
+    /// What is kept of it, where every number is in range and small enough.
+    pub fn details(&self) -> Result<Details, OutOfRange>
+        ensures { MatchResult result (λ d. (keepable self.now ≡ true) × (d ≡ details_of self.now)) (λ _. keepable self.now ≡ false) }
+    {
+        Ok(Details {
+            kind: Kind::try_from(self.kind)?,
+            flags: kept_or(self.flags, ASTFlags::NONE)?,
+            position: kept_or(self.position, Position::NONE)?,
+            payload: self.payload()?,
+            first: self.first()?,
+            second: self.second()?,
+        })
     }
 }

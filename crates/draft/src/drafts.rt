@@ -1,6 +1,8 @@
 //! What a put is handed: plain numbers throughout, so that each out of range is a refusal.
-ghost use Rattle.draft.specs.Drafts.{constant_in_range, constant_within, flags_in_range, ident_in_range, ident_within, if_given, in_range, kind_in_range, run_within, runs_within};
-ghost use Rattle.std.specs.Prelude.{◌≡◌, ℕ, Bool, true};
+ghost use Rattle.draft.specs.Drafts.{constant_in_range, constant_within, flags_in_range, ident_in_range, ident_within, in_range, kind_in_range, run_within, runs_within};
+ghost use Rattle.node.specs.Positions.{if_given};
+ghost use Rattle.std.specs.List.{list_all};
+ghost use Rattle.std.specs.Prelude.{◌≡◌, ℕ, Bool};
 
 use kind::kinds::{ExprKind, StmtKind};
 use node::positions::{Ranged, RawPosition, RawSpan};
@@ -106,7 +108,7 @@ impl Ranged for RawIdent {
     ghost ranged = { ident_in_range };
 
     fn in_range(self) -> bool {
-        if_in_range(self.pos)
+        self.pos.in_range()
     }
 }
 
@@ -151,23 +153,24 @@ impl Lying for RawConstant {
     }
 }
 
-// In range, where it is given.
-fn if_in_range<R: Ranged + Drop>(given: Option<R>) -> bool
-    ensures { result ≡ if_given R.ranged given }
-{
-    match given {
-        Some(x) => x.in_range(),
-        None => true,
+/// What is not given lies nowhere, and so within.
+impl<L: Lying> Lying for Option<L> {
+    ghost lies = { λ text. if_given (L.lies text) };
+
+    fn within(self, text: usize) -> bool {
+        match self {
+            Some(raw) => raw.within(text),
+            None => true,
+        }
     }
 }
 
-// Within a text of this length, where it is given.
-fn if_within<L: Lying + Drop>(given: Option<L>, text: usize) -> bool
-    ensures { result ≡ if_given (L.lies text) given }
-{
-    match given {
-        Some(x) => x.within(text),
-        None => true,
+/// Every element ends within the text.
+impl<'a, L: Lying + Copy> Lying for &'a [L] {
+    ghost lies = { λ text raws. list_all (L.lies text) raws.now };
+
+    fn within(self, text: usize) -> bool {
+        self.iter().all(|raw| raw.within(text))
     }
 }
 
@@ -177,20 +180,20 @@ impl Draft {
         ensures { result ≡ in_range self.now }
     {
         self.kind.in_range()
-            & if_in_range(self.flags)
-            & if_in_range(self.position)
-            & if_in_range(self.constant)
-            & if_in_range(self.body_span)
-            & if_in_range(self.branch_span)
-            & if_in_range(self.first)
-            & if_in_range(self.second)
-            & if_in_range(self.namespace)
+            & self.flags.in_range()
+            & self.position.in_range()
+            & self.constant.in_range()
+            & self.body_span.in_range()
+            & self.branch_span.in_range()
+            & self.first.in_range()
+            & self.second.in_range()
+            & self.namespace.in_range()
     }
 
     /// Whether its runs end within a text of this length.
     pub fn within(&self, text: usize) -> bool
         ensures { result ≡ runs_within text self.now }
     {
-        if_within(self.constant, text) & if_within(self.first, text) & if_within(self.second, text)
+        self.constant.within(text) & self.first.within(text) & self.second.within(text)
     }
 }

@@ -1,32 +1,23 @@
 //! Whether the parts and data of a draft fit the shape of its kind.
-ghost use Rattle.draft.specs.Fits.{default_fits, fits, fits_blocks, fits_extra, fits_head, fits_names, fits_value, given, handed, no_arms, same, value_number, with_position, without_position};
-ghost use Rattle.std.specs.Prelude.{◌≡◌, ◌==◌};
+ghost use Rattle.draft.specs.Fits.{default_fits, fits, fits_blocks, fits_extra, fits_head, fits_names, fits_value, handed, has_position, no_arms, value_of, with_position, without_position};
+ghost use Rattle.std.specs.List.{list_all};
+ghost use Rattle.std.specs.Prelude.{◌≡◌, ◌==◌, nat_lt};
 
 use crate::drafts::{Draft, RawConstant, RawIdent};
 use kind::shapes::{Blocks, Extra, Head, Names, Shape, Value};
 
-fn agree(a: bool, b: bool) -> bool
-    ensures { result ≡ same a b }
-{
-    if a { b } else { !b }
-}
-
+// Whether a name is given with its position.
 fn with_position(ident: Option<RawIdent>) -> bool
     ensures { result ≡ with_position ident }
 {
-    match ident {
-        Some(ident) => ident.pos.is_some(),
-        None => false,
-    }
+    ident.is_some_and(|ident| ident.pos.is_some())
 }
 
+// Whether a name is given without a position.
 fn without_position(ident: Option<RawIdent>) -> bool
     ensures { result ≡ without_position ident }
 {
-    match ident {
-        Some(ident) => ident.pos.is_none(),
-        None => false,
-    }
+    ident.is_some_and(|ident| ident.pos.is_none())
 }
 
 // Whether a head may have so many expressions.
@@ -44,84 +35,75 @@ fn head_fits(head: Head, count: usize) -> bool
 }
 
 // Whether lists of statements and their spans are those that the kind has.
-fn blocks_fit(blocks: Blocks, draft: &Draft) -> bool
+fn blocks_fit(blocks: Option<Blocks>, draft: &Draft) -> bool
     ensures { result ≡ fits_blocks blocks draft.now }
 {
     let body = draft.body_span.is_some();
     let branch = draft.branch_span.is_some();
     match blocks {
-        Blocks::None => draft.body == 0 && draft.branch == 0 && !body && !branch,
-        Blocks::List => draft.branch == 0 && body && !branch,
-        Blocks::Walked | Blocks::Held | Blocks::Catch => body && branch,
-    }
-}
-
-// A number for each constant, by which two are compared.
-fn value_number(value: Value) -> u8
-    ensures { result ≡ value_number value }
-{
-    match value {
-        Value::None => 0,
-        Value::Stored => 1,
-        Value::Bool => 2,
-        Value::Integer => 3,
-        Value::Float => 4,
-        Value::Char => 5,
-        Value::Text => 6,
+        None => draft.body == 0 && draft.branch == 0 && !body && !branch,
+        Some(Blocks::List) => draft.branch == 0 && body && !branch,
+        Some(Blocks::Walked | Blocks::Held | Blocks::Catch) => body && branch,
     }
 }
 
 // Which constant is given.
-fn value_of(constant: Option<RawConstant>) -> Value
-    ensures { result ≡ given constant }
+fn value_of(constant: RawConstant) -> Value
+    ensures { result ≡ value_of constant }
 {
     match constant {
-        None => Value::None,
-        Some(RawConstant::Stored(_)) => Value::Stored,
-        Some(RawConstant::Bool(_)) => Value::Bool,
-        Some(RawConstant::Integer(_)) => Value::Integer,
-        Some(RawConstant::Float(_)) => Value::Float,
-        Some(RawConstant::Char(_)) => Value::Char,
-        Some(RawConstant::Text(_)) => Value::Text,
+        RawConstant::Stored(_) => Value::Stored,
+        RawConstant::Bool(_) => Value::Bool,
+        RawConstant::Integer(_) => Value::Integer,
+        RawConstant::Float(_) => Value::Float,
+        RawConstant::Char(_) => Value::Char,
+        RawConstant::Text(_) => Value::Text,
     }
 }
 
 // Whether the constant given is the one that the kind has.
-fn value_fits(value: Value, constant: Option<RawConstant>) -> bool
+fn value_fits(value: Option<Value>, constant: Option<RawConstant>) -> bool
     ensures { result ≡ fits_value value constant }
 {
-    value_number(value) == value_number(value_of(constant))
+    value == constant.map(value_of)
 }
 
 // Whether the names given are those that the kind has.
-fn names_fit(names: Names, draft: &Draft) -> bool
+fn names_fit(names: Option<Names>, draft: &Draft) -> bool
     ensures { result ≡ fits_names names draft.now }
 {
     let first = draft.first;
     let second = draft.second;
     let local = draft.namespace.is_none();
     match names {
-        Names::None => first.is_none() && second.is_none() && local,
-        Names::Plain => without_position(first) && second.is_none() && local,
-        Names::Call => without_position(first) && second.is_none(),
-        Names::One => with_position(first) && second.is_none() && local,
-        Names::Counter => with_position(first)
+        None => first.is_none() && second.is_none() && local,
+        Some(Names::Plain) => without_position(first) && second.is_none() && local,
+        Some(Names::Call) => without_position(first) && second.is_none(),
+        Some(Names::One) => with_position(first) && second.is_none() && local,
+        Some(Names::Counter) => with_position(first)
             && (second.is_none() || with_position(second))
             && local,
-        Names::Two => with_position(first) && with_position(second) && local,
+        Some(Names::Two) => with_position(first) && with_position(second) && local,
     }
 }
 
 // Whether arms, references and names in links are those that the kind has.
-fn extra_fits(extra: Extra, draft: &Draft, idents: usize) -> bool
+fn extra_fits(extra: Option<Extra>, draft: &Draft, idents: usize) -> bool
     ensures { result ≡ fits_extra extra draft.now idents }
 {
     match extra {
-        Extra::None => draft.no_arms() && idents == 0,
-        Extra::Keys => draft.no_arms() && idents == draft.head,
-        Extra::Arms => draft.default_fits() && idents == 0,
-        Extra::Shared => draft.no_arms() && 1 <= idents,
+        None => draft.no_arms() && idents == 0,
+        Some(Extra::Keys) => draft.no_arms() && idents == draft.head,
+        Some(Extra::Arms) => draft.default_fits() && idents == 0,
+        Some(Extra::Shared) => draft.no_arms() && 1 <= idents,
     }
+}
+
+/// Whether each name has a position.
+pub fn all_placed(idents: &[RawIdent]) -> bool
+    ensures { result ≡ list_all has_position idents.now }
+{
+    idents.iter().all(|ident| ident.pos.is_some())
 }
 
 impl Draft {
@@ -136,10 +118,7 @@ impl Draft {
     fn default_fits(&self) -> bool
         ensures { result ≡ default_fits self.now }
     {
-        match self.default {
-            Some(arm) => arm < self.arms,
-            None => true,
-        }
+        self.default.is_none_or(|arm| arm < self.arms)
     }
 
     // Whether so many places are what the counts of its parts come to.
@@ -156,6 +135,13 @@ impl Draft {
         sum == places as u128
     }
 
+    /// Whether each reference names an arm.
+    pub fn arms_there(&self, references: &[usize]) -> bool
+        ensures { result ≡ list_all (λ arm. nat_lt arm self.now.arms) references.now }
+    {
+        references.iter().all(|arm| *arm < self.arms)
+    }
+
     /// Whether parts and data fit a shape, so far as that can be told without looking at the children:
     /// so many places and so many names for links are handed in beside it.
     pub fn fits(&self, shape: Shape, places: usize, idents: usize) -> bool
@@ -167,7 +153,7 @@ impl Draft {
             & extra_fits(shape.extra, self, idents)
             & value_fits(shape.value, self.constant)
             & names_fit(shape.names, self)
-            & agree(shape.flags, self.flags.is_some())
-            & agree(shape.position, self.position.is_some())
+            & (shape.flags == self.flags.is_some())
+            & (shape.position == self.position.is_some())
     }
 }

@@ -5,4 +5,3 @@ pub mod details;
 pub mod drafts;
 pub mod fits;
 pub mod keys;
-pub mod lists;

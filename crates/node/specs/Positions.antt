@@ -1,5 +1,5 @@
 -- Positions as they are handed in, as they are kept and as they are printed. Assumes nothing.
-use Rattle.std.specs.Prelude.{ℕ, Bool, cond, not, ◌&&◌, ◌||◌, List, ◌++◌, Some, None, Ok, Err, codes, decimal, Option, Result, ◌==◌, nat_le}
+use Rattle.std.specs.Prelude.{ℕ, Bool, true, cond, not, ◌&&◌, ◌||◌, List, ◌++◌, Some, None, Ok, Err, codes, decimal, Option, Result, ◌==◌, nat_le}
 use Rattle.node.specs.declared.faults.TableFault.{TableFault}
 use Rattle.node.specs.declared.faults.TableFault.TheVariants.{Range}
 use Rattle.node.specs.declared.positions.Position.{Position}
@@ -17,6 +17,11 @@ in_place p = nat_le p.line 65535 && (nat_le p.column 65535 && (not (p.line == 0)
 
 abbrev pub placed : RawPosition → Position
 placed p = record { line = p.line; pos = p.column }
+
+-- what holds of a datum where it is given
+abbrev pub if_given : {A : Type 0} → (A → Bool) → Option A → Bool
+if_given test None = true
+if_given test (Some x) = test x
 
 abbrev pub in_place_span : RawSpan → Bool
 in_place_span s = in_place s.start && in_place s.end

@@ -1,8 +1,10 @@
 //! Positions in a script: a line and a column, or none.
-ghost use Rattle.node.specs.Positions.{begins_line, brief, column_of, in_place, in_place_span, is_none, is_none_span, line_of, or_else, placed, placed_span, position_at, span_text, worded};
+ghost use Rattle.node.specs.Positions.{begins_line, brief, column_of, if_given, in_place, in_place_span, is_none, is_none_span, line_of, or_else, placed, placed_span, position_at, span_text, worded};
+ghost use Rattle.std.specs.List.{list_all};
 ghost use Rattle.std.specs.Prelude.{◌≡◌, Bool, true, false, Some, MatchResult};
 
 use crate::faults::TableFault;
+use kind::kinds::NoKind;
 use std::fmt;
 
 /// A line and a column. Line 0 stands only in 0:0, which is no position.
@@ -229,9 +231,36 @@ impl Ranged for RawSpan {
     }
 }
 
+/// What is not given is not out of range.
+impl<R: Ranged> Ranged for Option<R> {
+    ghost ranged = { if_given R.ranged };
+
+    fn in_range(self) -> bool {
+        match self {
+            Some(raw) => raw.in_range(),
+            None => true,
+        }
+    }
+}
+
+/// Every element is in range.
+impl<'a, R: Ranged + Copy> Ranged for &'a [R] {
+    ghost ranged = { λ raws. list_all R.ranged raws.now };
+
+    fn in_range(self) -> bool {
+        self.iter().all(|raw| raw.in_range())
+    }
+}
+
 /// Numbers that are out of range, or too large to be kept.
 #[derive(Clone, Copy, PartialEq, Eq, Debug)]
 pub struct OutOfRange;
+
+impl From<NoKind> for OutOfRange {
+    fn from(_none: NoKind) -> OutOfRange {
+        OutOfRange
+    }
+}
 
 /// The position of numbers in range.
 impl TryFrom<RawPosition> for Position {
