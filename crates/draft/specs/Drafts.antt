@@ -1,6 +1,9 @@
 -- When the numbers of a draft are in range, when its runs lie within the text, and what is kept of them.
 -- Assumes nothing.
 use Rattle.std.specs.Prelude.{ℕ, ◌+◌, Bool, true, ◌&&◌, ◌||◌, Some, None, Option, nat_le, nat_lt}
+use Rattle.kind.specs.Kinds.{stmt_number, expr_number}
+use Rattle.kind.specs.declared.kinds.Kind.{Kind}
+use Rattle.kind.specs.declared.kinds.Kind.TheVariants as kind
 use Rattle.node.specs.Positions.{if_given, in_place, in_place_span}
 use Rattle.draft.specs.declared.drafts.Draft.{Draft}
 use Rattle.draft.specs.declared.drafts.RawConstant.{RawConstant}
@@ -10,6 +13,15 @@ use Rattle.draft.specs.declared.drafts.RawIdent.{RawIdent}
 use Rattle.draft.specs.declared.drafts.RawKind.{RawKind}
 use Rattle.draft.specs.declared.drafts.RawKind.TheVariants.{Stmt, Expr}
 use Rattle.draft.specs.declared.drafts.RawRun.{RawRun}
+
+-- the number of a kind within its enum
+abbrev pub numbered : Kind → RawKind
+numbered (kind.Stmt k) = Stmt (stmt_number k)
+numbered (kind.Expr k) = Expr (expr_number k)
+
+-- a name without a position
+abbrev pub plain : RawRun → RawIdent
+plain run = record { name = run; pos = None }
 
 -- there are 17 kinds of statements and 22 of expressions
 abbrev pub kind_in_range : RawKind → Bool

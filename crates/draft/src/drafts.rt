@@ -1,10 +1,10 @@
 //! What a put is handed: plain numbers throughout, so that each out of range is a refusal.
-ghost use Rattle.draft.specs.Drafts.{constant_in_range, constant_within, flags_in_range, ident_in_range, ident_within, in_range, kind_in_range, run_within, runs_within};
+ghost use Rattle.draft.specs.Drafts.{constant_in_range, constant_within, flags_in_range, ident_in_range, ident_within, in_range, kind_in_range, numbered, plain, run_within, runs_within};
 ghost use Rattle.node.specs.Positions.{if_given};
 ghost use Rattle.std.specs.List.{list_all};
 ghost use Rattle.std.specs.Prelude.{◌≡◌, ℕ, Bool};
 
-use kind::kinds::{ExprKind, StmtKind};
+use kind::kinds::{ExprKind, Kind, StmtKind};
 use node::positions::{Ranged, RawPosition, RawSpan};
 
 /// A kind by its number within its enum.
@@ -64,6 +64,27 @@ pub struct Draft {
     pub arms: usize,
     pub values: usize,
     pub ranges: usize,
+}
+
+/// The number of a kind within its enum.
+impl From<Kind> for RawKind {
+    ghost from_gives = { λ kind r. r ≡ numbered kind };
+
+    fn from(kind: Kind) -> RawKind {
+        match kind {
+            Kind::Stmt(kind) => RawKind::Stmt(kind.number()),
+            Kind::Expr(kind) => RawKind::Expr(kind.number()),
+        }
+    }
+}
+
+/// A name without a position.
+impl From<RawRun> for RawIdent {
+    ghost from_gives = { λ name r. r ≡ plain name };
+
+    fn from(name: RawRun) -> RawIdent {
+        RawIdent { name, pos: None }
+    }
 }
 
 /// There is a kind of this number.

@@ -1,5 +1,6 @@
 -- What each maker's draft holds, and that it fits its kind. Assumes nothing.
 use Rattle.std.specs.Prelude.{◌≡◌, ℕ, true, Some, None, Option}
+use Rattle.draft.specs.Drafts.{numbered, plain}
 use Rattle.draft.specs.Fits.{fits, handed}
 use Rattle.draft.specs.declared.drafts.Draft.{Draft}
 use Rattle.draft.specs.declared.drafts.RawConstant.{RawConstant}
@@ -21,11 +22,6 @@ use Rattle.makers.specs.declared.parts.Block.{Block}
 use Rattle.makers.specs.declared.parts.Placed.{Placed}
 use Rattle.makers.specs.declared.parts.Qualified.{Qualified}
 
--- the number of a kind within its enum
-abbrev pub numbered : Kind → RawKind
-numbered (Stmt k) = raw.Stmt (stmt_number k)
-numbered (Expr k) = raw.Expr (expr_number k)
-
 -- a draft of this kind that put does not refuse for its parts or data: they fit the shape of the kind,
 -- where as many places as it counts and so many names are handed in for its links
 abbrev pub Fits : Kind → ℕ → Draft → Type 0
@@ -40,9 +36,6 @@ FitsExpr k = Fits (Expr k)
 -- names as a draft holds them
 abbrev pub placed : Placed → RawIdent
 placed n = record { name = n.name; pos = Some n.pos }
-
-abbrev pub plain : RawRun → RawIdent
-plain run = record { name = run; pos = None }
 
 -- what a draft holds: its position; a list of statements; a body and a branch; arms; a name and arguments
 abbrev pub PlacedAt : RawPosition → Draft → Type 0
@@ -91,41 +84,8 @@ based k p n = record {
 }
 
 abbrev pub with_blocks : Kind → Block → Block → RawPosition → Draft
-with_blocks k body branch p = record {
-  kind = numbered k;
-  flags = None;
-  position = Some p;
-  constant = None;
-  body_span = Some body.span;
-  branch_span = Some branch.span;
-  first = None;
-  second = None;
-  namespace = None;
-  default = None;
-  head = 1;
-  body = body.statements;
-  branch = branch.statements;
-  arms = 0;
-  values = 0;
-  ranges = 0;
-}
+with_blocks k body branch p =
+    record (based k (Some p) 1) { body = body.statements; body_span = Some body.span; branch = branch.statements; branch_span = Some branch.span }
 
 abbrev pub called : Kind → Qualified → ℕ → RawPosition → Draft
-called k name n p = record {
-  kind = numbered k;
-  flags = None;
-  position = Some p;
-  constant = None;
-  body_span = None;
-  branch_span = None;
-  first = Some (plain name.name);
-  second = None;
-  namespace = name.namespace;
-  default = None;
-  head = n;
-  body = 0;
-  branch = 0;
-  arms = 0;
-  values = 0;
-  ranges = 0;
-}
+called k name n p = record (based k (Some p) n) { first = Some (plain name.name); namespace = name.namespace }

@@ -1,28 +1,18 @@
 //! What several makers begin with.
-ghost use Rattle.makers.specs.Makers.{based, called, numbered, plain, with_blocks};
+ghost use Rattle.makers.specs.Makers.{based, called, with_blocks};
 ghost use Rattle.std.specs.Prelude.{◌≡◌};
 
 use crate::parts::{Block, Qualified};
-use draft::drafts::{Draft, RawIdent, RawKind, RawRun};
+use draft::drafts::{Draft, RawIdent, RawKind};
 use kind::kinds::Kind;
 use node::positions::RawPosition;
-
-// The number of a kind within its enum.
-fn number(kind: Kind) -> RawKind
-    ensures { result ≡ numbered kind }
-{
-    match kind {
-        Kind::Stmt(kind) => RawKind::Stmt(kind.number()),
-        Kind::Expr(kind) => RawKind::Expr(kind.number()),
-    }
-}
 
 // A draft with its kind, its position and the number of its expressions alone.
 pub fn base(kind: Kind, position: Option<RawPosition>, head: usize) -> Draft
     ensures { result ≡ based kind position head }
 {
     Draft {
-        kind: number(kind),
+        kind: RawKind::from(kind),
         flags: None,
         position,
         constant: None,
@@ -54,19 +44,12 @@ pub fn with_blocks(kind: Kind, body: Block, branch: Block, position: RawPosition
     }
 }
 
-// A name without a position.
-pub fn plain_ident(name: RawRun) -> RawIdent
-    ensures { result ≡ plain name }
-{
-    RawIdent { name, pos: None }
-}
-
 // A draft with a name that may be qualified, and arguments.
 pub fn called(kind: Kind, name: Qualified, arguments: usize, position: RawPosition) -> Draft
     ensures { result ≡ called kind name arguments position }
 {
     Draft {
-        first: Some(plain_ident(name.name)),
+        first: Some(RawIdent::from(name.name)),
         namespace: name.namespace,
         ..base(kind, Some(position), arguments)
     }

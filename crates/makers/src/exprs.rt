@@ -1,10 +1,11 @@
 //! Makers of expressions.
 ghost use Rattle.std.specs.Prelude.{◌≡◌, ◌<◌, if◌then◌else◌, Some};
-ghost use Rattle.makers.specs.Makers.{Called, FitsExpr, Listed, PlacedAt, constant_kind, plain};
+ghost use Rattle.draft.specs.Drafts.{plain};
+ghost use Rattle.makers.specs.Makers.{Called, FitsExpr, Listed, PlacedAt, constant_kind};
 
-use crate::bases::{base, called, plain_ident};
+use crate::bases::{base, called};
 use crate::parts::{Block, Qualified};
-use draft::drafts::{Draft, RawConstant, RawFlags, RawRun};
+use draft::drafts::{Draft, RawConstant, RawFlags, RawIdent, RawRun};
 use kind::kinds::{ExprKind, Kind};
 use node::positions::RawPosition;
 
@@ -171,7 +172,7 @@ pub fn property(name: RawRun, position: RawPosition) -> Draft
     ensures holds { (result.first ≡ Some (plain name)) × PlacedAt position result }
 {
     Draft {
-        first: Some(plain_ident(name)),
+        first: Some(RawIdent::from(name)),
         ..base(Kind::Expr(ExprKind::Property), Some(position), 0)
     }
 }

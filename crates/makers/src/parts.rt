@@ -19,14 +19,14 @@ pub struct Placed {
     pub pos: RawPosition,
 }
 
-impl Placed {
-    /// The name as a draft holds it, and as keys and shared names are handed in.
-    pub fn ident(self) -> RawIdent
-        ensures { result ≡ placed self }
-    {
+/// The name as a draft holds it, and as keys and shared names are handed in.
+impl From<Placed> for RawIdent {
+    ghost from_gives = { λ name r. r ≡ placed name };
+
+    fn from(name: Placed) -> RawIdent {
         RawIdent {
-            name: self.name,
-            pos: Some(self.pos),
+            name: name.name,
+            pos: Some(name.pos),
         }
     }
 }

@@ -1,12 +1,12 @@
 //! Makers of statements.
 ghost use Rattle.std.specs.Prelude.{◌≡◌, ℕ, ◌<◌, true, if◌then◌else◌, Some, nat_lt};
-ghost use Rattle.draft.specs.Drafts.{if_given};
+ghost use Rattle.node.specs.Positions.{if_given};
 ghost use Rattle.makers.specs.Makers.{Armed, Blocked, Called, FitsStmt, Listed, PlacedAt, placed};
 ghost use Rattle.std.specs.Option.{option_map};
 
 use crate::bases::{base, called, with_blocks};
 use crate::parts::{Arms, Block, Placed, Qualified};
-use draft::drafts::{Draft, RawFlags};
+use draft::drafts::{Draft, RawFlags, RawIdent};
 use kind::kinds::{Kind, StmtKind};
 use node::positions::RawPosition;
 
@@ -64,13 +64,9 @@ pub fn for_(
     ensures fits { FitsStmt StmtKind.For 0 result }
     ensures holds { (result.first ≡ Some (placed name)) × (result.second ≡ option_map placed counter) × Blocked body branch result × PlacedAt position result }
 {
-    let second = match counter {
-        Some(name) => Some(name.ident()),
-        None => None,
-    };
     Draft {
-        first: Some(name.ident()),
-        second,
+        first: Some(RawIdent::from(name)),
+        second: counter.map(RawIdent::from),
         ..with_blocks(Kind::Stmt(StmtKind::For), body, branch, position)
     }
 }
@@ -95,7 +91,7 @@ pub fn var(name: Placed, flags: RawFlags, position: RawPosition) -> Draft
     ensures holds { (result.first ≡ Some (placed name)) × (result.flags ≡ Some flags) × PlacedAt position result }
 {
     Draft {
-        first: Some(name.ident()),
+        first: Some(RawIdent::from(name)),
         flags: Some(flags),
         ..base(Kind::Stmt(StmtKind::Var), Some(position), 1)
     }
@@ -172,7 +168,7 @@ pub fn import(name: Placed, position: RawPosition) -> Draft
     ensures holds { (result.first ≡ Some (placed name)) × PlacedAt position result }
 {
     Draft {
-        first: Some(name.ident()),
+        first: Some(RawIdent::from(name)),
         ..base(Kind::Stmt(StmtKind::Import), Some(position), 1)
     }
 }
@@ -183,8 +179,8 @@ pub fn export(name: Placed, alias: Placed, position: RawPosition) -> Draft
     ensures holds { (result.first ≡ Some (placed name)) × (result.second ≡ Some (placed alias)) × PlacedAt position result }
 {
     Draft {
-        first: Some(name.ident()),
-        second: Some(alias.ident()),
+        first: Some(RawIdent::from(name)),
+        second: Some(RawIdent::from(alias)),
         ..base(Kind::Stmt(StmtKind::Export), Some(position), 0)
     }
 }
