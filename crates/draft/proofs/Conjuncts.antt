@@ -1,9 +1,9 @@
 -- All numbers of a draft are fit to be kept, and each of them is. Assumes nothing.
-use Rattle.std.proofs.Common.{◌≡◌, ◌&&◌, Bool, true, false, sym, refl, ltb, ◌∙◌}
+use Rattle.std.proofs.Common.{◌≡◌, Bool, true, false, sym, refl, ◌∙◌}
 use Rattle.std.proofs.lemmas.Bool.{and_from, and_parts, false≢true}
-use Rattle.draft.specs.Details.{first_kept, keepable, payload_kept, second_kept, small_constant}
-use Rattle.draft.specs.Drafts.{kind_in_range, flags_in_range, constant_in_range, constant_within, ident_in_range, ident_within}
-use Rattle.node.specs.Positions.{if_given, in_place, in_place_span}
+use Rattle.draft.specs.Details.{first_kept, keepable, payload_kept, second_kept}
+use Rattle.draft.specs.Drafts.{kind_in_range, flags_in_range}
+use Rattle.node.specs.Positions.{if_given, in_place}
 use Rattle.draft.specs.declared.drafts.Draft.{Draft}
 
 pub record Kept (d : Draft) : Type 0 where

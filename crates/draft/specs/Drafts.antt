@@ -1,6 +1,6 @@
 -- When the numbers of a draft are in range, when its runs lie within the text, and what is kept of them.
 -- Assumes nothing.
-use Rattle.std.specs.Prelude.{ℕ, ◌+◌, Bool, true, ◌&&◌, ◌||◌, Some, None, Option, nat_le, nat_lt}
+use Rattle.std.specs.Prelude.{ℕ, ◌+◌, Bool, true, ◌&&◌, ◌||◌, None, nat_le, nat_lt}
 use Rattle.kind.specs.Kinds.{stmt_number, expr_number}
 use Rattle.kind.specs.declared.kinds.Kind.{Kind}
 use Rattle.kind.specs.declared.kinds.Kind.TheVariants as kind

@@ -6,10 +6,6 @@ use Rattle.draft.specs.declared.drafts.Draft.{Draft}
 use Rattle.draft.specs.declared.drafts.RawConstant.{RawConstant}
 use Rattle.draft.specs.declared.drafts.RawConstant.TheVariants as constant
 use Rattle.draft.specs.declared.drafts.RawIdent.{RawIdent}
-use Rattle.draft.specs.declared.drafts.RawKind.{RawKind}
-use Rattle.draft.specs.declared.drafts.RawKind.TheVariants as raw
-use Rattle.draft.specs.declared.drafts.RawRun.{RawRun}
-use Rattle.kind.specs.Kinds.{stmt_number, expr_number}
 use Rattle.kind.specs.Shapes.{shape_of}
 use Rattle.kind.specs.declared.kinds.ExprKind.{ExprKind}
 use Rattle.kind.specs.declared.kinds.ExprKind.TheVariants as expr

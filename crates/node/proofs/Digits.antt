@@ -1,5 +1,5 @@
 -- A flag is in a set exactly where the bits that they share are the flag. Assumes nothing.
-use Rattle.std.proofs.Common.{◌≡◌, ℕ, zero, suc, ◌*◌, ◌/◌, ◌%◌, ◌<◌, true, false, eqb, refl, ap, ◌∙◌, le_of_suc-le-suc, not-suc-le-zero, mod-lt, lit<}
+use Rattle.std.proofs.Common.{◌≡◌, ℕ, zero, suc, ◌*◌, ◌/◌, ◌%◌, ◌<◌, true, false, eqb, ap, ◌∙◌, le_of_suc-le-suc, not-suc-le-zero, mod-lt, lit<}
 use lib.Bits.{bit_and}
 
 -- a binary digit times a value is the value where the digit is 1
