@@ -23,11 +23,9 @@ fn few_keys(rt: HostRuntime) {
 
 // The keys of two bytes at 0, 2, 4 and so on.
 fn pairs(heap: Global, count: usize) -> Result<Vec<RawIdent>, AllocError> {
-    let mut keys = Vec::new(heap);
-    for i in 0..count {
-        keys.push(key(i.saturating_mul(2), 2))?;
-    }
-    Ok(keys)
+    (0..count)
+        .map(|i| key(i.saturating_mul(2), 2))
+        .collect(heap)
 }
 
 // So many keys of two bytes each are distinct, and are not once the last is that at the start.

@@ -1,14 +1,14 @@
 //! Kinds by number and by name, and flags.
-use kind::kinds::{ExprKind, StmtKind};
+use kind::kinds::{ExprKind, NoKind, StmtKind};
 use node::flags::ASTFlags;
 use std::test::Fail;
 
 #[test]
 fn kinds_by_number(rt: HostRuntime) {
-    assert_eq!(rt; StmtKind::from_number(16), Some(StmtKind::Share));
-    assert_eq!(rt; StmtKind::from_number(17), None);
-    assert_eq!(rt; ExprKind::from_number(21), Some(ExprKind::Custom));
-    assert_eq!(rt; ExprKind::from_number(22), None);
+    assert_eq!(rt; StmtKind::try_from(16), Ok(StmtKind::Share));
+    assert_eq!(rt; StmtKind::try_from(17), Err(NoKind { number: 17 }));
+    assert_eq!(rt; ExprKind::try_from(21), Ok(ExprKind::Custom));
+    assert_eq!(rt; ExprKind::try_from(22), Err(NoKind { number: 22 }));
 }
 
 #[test]

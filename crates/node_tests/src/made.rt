@@ -1,5 +1,5 @@
 //! The draft of every maker fits the shape of its kind.
-use draft::drafts::{Draft, RawFlags, RawKind, RawRun};
+use draft::drafts::{Draft, RawFlags, RawRun};
 use kind::kinds::{ExprKind, Kind, StmtKind};
 use makers::parts::{Arms, Block, Placed, Qualified};
 use makers::{exprs, stmts};
@@ -33,12 +33,7 @@ const ARMS: Arms = Arms {
 
 // The draft is of this kind and fits it, with so many places and names handed in.
 fn fits(rt: &impl Abort, kind: Kind, draft: Draft, places: usize, idents: usize) {
-    let same = match (kind, draft.kind) {
-        (Kind::Stmt(kind), RawKind::Stmt(number)) => kind.number() == number,
-        (Kind::Expr(kind), RawKind::Expr(number)) => kind.number() == number,
-        _ => false,
-    };
-    assert!(rt; same, "{}", kind.name());
+    assert!(rt; Kind::try_from(draft.kind) == Ok(kind), "{}", kind.name());
     assert!(rt; draft.fits(kind.shape(), places, idents), "{}", kind.name());
 }
 

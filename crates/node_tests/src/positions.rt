@@ -110,6 +110,6 @@ fn positions_in_range(rt: HostRuntime) {
     for (line, column, within) in table {
         let raw = RawPosition { line, column };
         assert_eq!(rt; raw.in_range(), within);
-        assert_eq!(rt; raw.position().is_some(), within);
+        assert_eq!(rt; Position::try_from(raw).is_ok(), within);
     }
 }
