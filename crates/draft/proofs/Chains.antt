@@ -1,74 +1,118 @@
 -- Chains of keys in one bucket. Assumes nothing.
-use Rattle.std.proofs.Common.{◌≡◌, ℕ, zero, suc, ◌+◌, ◌<◌, ◌≤◌, eqb, ◌≢◌, List, length, get_or, set, sym, ap, ◌∙◌, subst, ⊎_elim, zero-le, le_refl, add-one, arith, get_or-set_other, get_or-set_same, below_more}
-use Rattle.std.proofs.lemmas.Bool.{cases_Bool, cases_eq, cases_lt, cases_order, cond-true, cond-false, cond_both, eqb-true, eqb-false, eq-eqb, ne_eqb}
-use Rattle.draft.specs.Buckets.{last_in, bucket_at, bucket_of, Chained}
-use Rattle.draft.specs.Keys.{key_at, Among}
+use Rattle.std.proofs.Common.{◌≡◌, ℕ, zero, suc, ◌+◌, ◌*◌, ◌<◌, ◌≤◌, eqb, ◌≢◌, Option, Some, None, cond, List, length, take, get_or, set, sym, refl, ap, ap₂, ◌∙◌, subst, ⊎_elim, zero-le, le_refl, add-one, arith, mod-lt, lit<, get_or-set_other, get_or-set_same, below_more}
+use Rattle.std.proofs.lemmas.Bool.{cases_eq, cases_lt, cases_order, cond-true, cond-false, cond_both, eqb-true, eqb-false, eq-eqb, ne_eqb}
+use Rattle.std.proofs.lemmas.List.{get_or-take, length-take-le}
+use Rattle.std.proofs.lemmas.List.Folds.{fold_along}
+use Rattle.std.proofs.lemmas.Option.{same_Some}
+use Rattle.draft.specs.Buckets.{mix, last_in, bucket_at, bucket_of, Chained}
+use Rattle.draft.specs.Keys.{no_key, key_bytes, key_at, Among}
 use Rattle.draft.specs.declared.drafts.RawIdent.{RawIdent}
 
+pub bucket_low : (bytes : List ℕ) → bucket_of bytes < 1024
+bucket_low bytes = fold_along mix mix (λ a b. a < 1024) (λ a b x low. mod-lt (a * 31 + x) (lit< tt)) _ 0 (take 64 bytes) (mod-lt (length bytes) (lit< tt))
+
+-- how many keys there are up to a place
+abbrev pub upto : Option ℕ → ℕ
+upto None = 0
+upto (Some j) = suc j
+
 module _ (bucket : ℕ → ℕ) (b : ℕ) where
-  pub last_le : (n : ℕ) → last_in bucket b n ≤ n
-  last_le zero = zero-le
-  last_le (suc n) =
-      cond_both (eqb (bucket n) b) (suc n) (last_in bucket b n) (λ m. m ≤ suc n) (λ e. le_refl (suc n)) (λ e. let h : last_in bucket b n ≤ n = last_le n in omega arith)
+  -- it is one of the first n and in the bucket, and no key behind it is
+  abbrev pub IsLast : ℕ → Option ℕ → Type 0
+  IsLast n o = (upto o ≤ n) × ((j : ℕ) → o ≡ Some j → bucket j ≡ b) × ((k : ℕ) → upto o ≤ k → k < n → bucket k ≢ b)
 
-  -- it is in the bucket
-  pub last_bucket : (n j : ℕ) → last_in bucket b n ≡ suc j → bucket j ≡ b
-  last_bucket zero j e = absurd (let h : 0 ≡ suc j = e in omega arith)
-  last_bucket (suc n) j e =
-      ⊎_elim
-      (λ t. let same : n ≡ j = let h : suc n ≡ suc j = sym (cond-true _ (suc n) (last_in bucket b n) t) ∙ e in omega arith in ap bucket (sym same) ∙ eqb-true (bucket n) b t)
-      (λ t. last_bucket n j (sym (cond-false _ (suc n) (last_in bucket b n) t) ∙ e))
-      (cases_Bool (eqb (bucket n) b))
-
-  -- no key behind it is
-  pub last_past : (n k : ℕ) → last_in bucket b n ≤ k → k < n → bucket k ≡ b → ⊥
-  last_past zero k low high e = omega arith
-  last_past (suc n) k low high e =
-      ⊎_elim
-      (λ t. let h : suc n ≤ k = subst (λ m. m ≤ k) (cond-true _ (suc n) (last_in bucket b n) t) low in omega arith)
-      (λ t.
-      let h : last_in bucket b n ≤ k = subst (λ m. m ≤ k) (cond-false _ (suc n) (last_in bucket b n) t) low in
-      ⊎_elim
-      (λ same. eqb-false (bucket n) b t (ap bucket (sym same) ∙ e))
-      (⊎_elim (λ less. last_past n k h less e) (λ more. omega arith))
-      (cases_order k n))
-      (cases_Bool (eqb (bucket n) b))
+  pub last_is : (n : ℕ) → IsLast n (last_in bucket b n)
+  last_is zero = (zero-le, (λ j e. cc), (λ k low high. absurd (omega arith)))
+  last_is (suc n) =
+      let old = last_is n in
+      cond_both (eqb (bucket n) b) (Some n) (last_in bucket b n) (IsLast (suc n))
+      (λ e. (le_refl (suc n), (λ j is. ap bucket (sym (same_Some n j is)) ∙ eqb-true _ _ e), (λ k low high. absurd (omega arith))))
+      (λ e. (
+        omega (arith, old.0),
+        old.1,
+        (λ k low high. ⊎_elim (λ before. old.2 k low before) (λ here. let same : k ≡ n = omega arith in λ is. eqb-false _ _ e (ap bucket (sym same) ∙ is)) (cases_lt k n)),
+      ))
 
 -- one key more in the buckets, at the spot of its bucket
 module _ (bucket : ℕ → ℕ) (n spot : ℕ) (its : spot ≡ bucket n) where
-  pub heads_more : (heads : List ℕ) → spot < length heads → (b : ℕ) → get_or heads b 0 ≡ last_in bucket b n → get_or (set heads spot (n + 1)) b 0 ≡ last_in bucket b (n + 1)
-  heads_more heads within b old =
+  pub heads_more : (heads : List (Option ℕ)) (to : Option ℕ) → to ≡ Some n → spot < length heads → (b : ℕ) → get_or heads b None ≡ last_in bucket b n → get_or (set heads spot to) b None ≡ last_in bucket b (n + 1)
+  heads_more heads to is within b old =
+      rw is
       rw add-one
       (⊎_elim
       (λ same.
-      ap (λ x. get_or (set heads spot (suc n)) x 0) (sym same)
-      ∙ get_or-set_same heads spot (suc n) 0 within
-      ∙ sym (cond-true _ (suc n) (last_in bucket b n) (eq-eqb (bucket n) b (sym its ∙ same))))
+      ap (λ x. get_or (set heads spot (Some n)) x None) (sym same)
+      ∙ get_or-set_same heads spot (Some n) None within
+      ∙ sym (cond-true _ (Some n) (last_in bucket b n) (eq-eqb (bucket n) b (sym its ∙ same))))
       (λ other.
-      get_or-set_other heads spot b (suc n) 0 (λ e. other (sym e))
+      get_or-set_other heads spot b (Some n) None (λ e. other (sym e))
       ∙ old
-      ∙ sym (cond-false _ (suc n) (last_in bucket b n) (ne_eqb (bucket n) b (λ e. other (its ∙ e)))))
+      ∙ sym (cond-false _ (Some n) (last_in bucket b n) (ne_eqb (bucket n) b (λ e. other (its ∙ e)))))
       (cases_eq spot b))
 
-  pub chained_more : (next : List ℕ) (head : ℕ) → n < length next → head ≡ last_in bucket spot n → Chained bucket next n → Chained bucket (set next n head) (n + 1)
+  pub chained_more : (next : List (Option ℕ)) (head : Option ℕ) → n < length next → head ≡ last_in bucket spot n → Chained bucket next n → Chained bucket (set next n head) (n + 1)
   chained_more next head within first old =
       below_more _ _
       (λ j low. let other : j ≢ n = omega arith in rw get_or-set_other (old j low))
-      (get_or-set_same next n head 0 within ∙ first ∙ ap (λ b. last_in bucket b n) its)
+      (get_or-set_same next n head None within ∙ first ∙ ap (λ b. last_in bucket b n) its)
 
-module _ (text : List ℕ) (keys : List RawIdent) (bytes : List ℕ) where
-  -- one key on along a chain: `m` is what stands behind the key at `j`
-  module _ (j m : ℕ) (here : bucket_at text keys j ≡ bucket_of bytes) (goes : m ≡ last_in (bucket_at text keys) (bucket_at text keys j) j) where
-    pub chain_falls : m ≤ j
-    chain_falls = let h : last_in (bucket_at text keys) (bucket_at text keys j) j ≤ j = last_le _ _ j in omega arith
+-- the first n keys are distinct
+abbrev pub DistinctTo : List ℕ → List RawIdent → ℕ → Type 0
+DistinctTo text keys n = (j k : ℕ) → j < k → k < n → key_at text keys j ≡ key_at text keys k → ⊥
 
-    pub chain_stays : (i : ℕ) → m ≡ suc i → bucket_at text keys i ≡ bucket_of bytes
-    chain_stays i e = last_bucket (bucket_at text keys) (bucket_at text keys j) j i (sym goes ∙ e) ∙ here
+module _ (text : List ℕ) (keys : List RawIdent) where
+  pub key_at-take : (n k : ℕ) → k < n → key_at text (take n keys) k ≡ key_at text keys k
+  key_at-take n k low = ap (key_bytes text) (get_or-take n keys k no_key low)
 
-    pub chain_skips : (k : ℕ) → m ≤ k → k < j → key_at text keys k ≡ bytes → ⊥
-    chain_skips k low high same = last_past (bucket_at text keys) (bucket_at text keys j) j k (subst (λ x. x ≤ k) goes low) high (ap bucket_of same ∙ sym here)
+  -- the buckets of the first i keys alone
+  pub last_in-take : (i b n : ℕ) → n ≤ i → last_in (bucket_at text keys) b n ≡ last_in (bucket_at text (take i keys)) b n
+  last_in-take i b zero low = refl
+  last_in-take i b (suc n) low = ap₂ (λ x rest. cond (eqb x b) (Some n) rest) (ap bucket_of (sym (key_at-take i n (omega arith)))) (last_in-take i b n (omega arith))
 
-  -- what is on no place of its chain is nowhere before
-  pub not_before : (n head : ℕ) → head ≡ last_in (bucket_at text keys) (bucket_of bytes) n → (Among text keys head bytes → ⊥) → (j : ℕ) → j < n → key_at text keys j ≡ bytes → ⊥
-  not_before n head is off j low same =
-      ⊎_elim (λ less. off (j, less, same)) (λ past. last_past (bucket_at text keys) (bucket_of bytes) n j (subst (λ x. x ≤ j) is past) low (ap bucket_of same)) (cases_lt j head)
+  pub Chained-take : (i : ℕ) (next : List (Option ℕ)) → i ≤ length keys → Chained (bucket_at text keys) next i → Chained (bucket_at text (take i keys)) next (length (take i keys))
+  Chained-take i next within old j low =
+      let len : length (take i keys) ≡ i = length-take-le i keys within in
+      let here : j < i = omega arith in
+      old j here ∙ ap (λ b. last_in (bucket_at text keys) b j) (ap bucket_of (sym (key_at-take i j here))) ∙ last_in-take i _ j (omega arith)
+
+  -- one key more, which is none of those before it
+  pub distinct_more : (i : ℕ) (bytes : List ℕ) → i < length keys → bytes ≡ key_at text keys i → (Among text (take i keys) bytes → ⊥) → DistinctTo text keys i → DistinctTo text keys (i + 1)
+  distinct_more i bytes within its fresh old j k less low same =
+      ⊎_elim
+      (λ before. old j k less before same)
+      (λ past.
+      let len : length (take i keys) ≡ i = length-take-le i keys (omega arith) in
+      let here : k ≡ i = omega arith in
+      fresh (j, omega arith, key_at-take i j (omega arith) ∙ same ∙ ap (key_at text keys) here ∙ sym its))
+      (cases_lt k i)
+
+  module _ (bytes : List ℕ) where
+    -- a chain goes on in the bucket of the bytes, and no key past it has them
+    abbrev pub GoesOn : Option ℕ → Type 0
+    GoesOn at =
+        (upto at ≤ length keys)
+        × ((j : ℕ) → at ≡ Some j → bucket_at text keys j ≡ bucket_of bytes)
+        × ((k : ℕ) → upto at ≤ k → k < length keys → key_at text keys k ≡ bytes → ⊥)
+
+    pub chain_starts : (first : Option ℕ) → first ≡ last_in (bucket_at text keys) (bucket_of bytes) (length keys) → GoesOn first
+    chain_starts first is =
+        let last = subst (IsLast (bucket_at text keys) (bucket_of bytes) (length keys)) (sym is) (last_is (bucket_at text keys) (bucket_of bytes) (length keys)) in
+        (last.0, last.1, (λ k low high same. last.2 k low high (ap bucket_of same)))
+
+    -- one key on along a chain, to a lower place
+    pub chain_steps : (at : Option ℕ) (i : ℕ) (next : List (Option ℕ)) → at ≡ Some i → GoesOn at → (key_at text keys i ≡ bytes → ⊥) → Chained (bucket_at text keys) next (length keys) → (upto (get_or next i None) < upto at) × GoesOn (get_or next i None)
+    chain_steps at i next is on other chained =
+        let bucket = bucket_at text keys in
+        let high : suc i ≤ length keys = subst (λ o. upto o ≤ length keys) is on.0 in
+        let last = subst (IsLast bucket (bucket_of bytes) i) (sym (chained i high ∙ ap (λ b. last_in bucket b i) (on.1 i is))) (last_is bucket (bucket_of bytes) i) in
+        let low = last.0 in (
+          rw is (omega arith),
+          (
+            omega arith,
+            last.1,
+            (λ k low high same.
+                ⊎_elim (λ e. other (ap (key_at text keys) (sym e) ∙ same))
+                (⊎_elim (λ before. last.2 k low before (ap bucket_of same)) (λ past. on.2 k (rw is past) high same))
+                (cases_order k i)),
+          ),
+        )

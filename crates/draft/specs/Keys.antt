@@ -18,6 +18,6 @@ key_at text keys i = key_bytes text (slice_index_or keys i no_key)
 abbrev pub Distinct : List ℕ → List RawIdent → Type 0
 Distinct text keys = (j k : ℕ) → j < k → k < length keys → key_at text keys j ≢ key_at text keys k
 
--- one of the first n keys has these bytes
-abbrev pub Among : List ℕ → List RawIdent → ℕ → List ℕ → Type 0
-Among text keys n bytes = (j : ℕ) × (j < n) × (key_at text keys j ≡ bytes)
+-- one of the keys has these bytes
+abbrev pub Among : List ℕ → List RawIdent → List ℕ → Type 0
+Among text keys bytes = (j : ℕ) × (j < length keys) × (key_at text keys j ≡ bytes)

@@ -1,6 +1,6 @@
 //! Whether no key of a map stands twice.
-ghost use Rattle.std.specs.Prelude.{◌≡◌, ℕ, suc, ◌<◌, ◌≤◌, length, Decides};
-ghost use Rattle.draft.specs.Buckets.{Chained, bucket_at, bucket_of};
+ghost use Rattle.std.specs.Prelude.{◌≡◌, ◌<◌, ◌≤◌, length, Decides};
+ghost use Rattle.draft.specs.Buckets.{Chained, bucket_at, bucket_of, last_in};
 ghost use Rattle.draft.specs.Keys.{Among, Distinct, key_bytes};
 
 use crate::drafts::RawIdent;
@@ -28,25 +28,19 @@ impl RawIdent {
     }
 }
 
-// Whether one of the first `count` keys has these bytes.
-fn among(text: &[u8], keys: &[RawIdent], count: usize, bytes: &[u8]) -> bool
-    requires { count ≤ length keys.now }
-    ensures { Decides result (Among text.now keys.now count bytes.now) }
+// Whether one of some keys has these bytes.
+fn among(text: &[u8], keys: &[RawIdent], bytes: &[u8]) -> bool
+    ensures { Decides result (Among text.now keys.now bytes.now) }
 {
-    for i in 0..count {
-        if keys[i].has_bytes(text, bytes) {
-            return true;
-        }
-    }
-    false
+    keys.iter().any(|key| key.has_bytes(text, bytes))
 }
 
 // By comparing each key with all before it.
 fn distinct_by_pairs(text: &[u8], keys: &[RawIdent]) -> bool
     ensures { Decides result (Distinct text.now keys.now) }
 {
-    for i in 0..keys.len() {
-        if among(text, keys, i, keys[i].bytes(text)) {
+    for (i, key) in keys.iter().enumerate() {
+        if among(text, &keys[..i], key.bytes(text)) {
             return false;
         }
     }
@@ -55,50 +49,53 @@ fn distinct_by_pairs(text: &[u8], keys: &[RawIdent]) -> bool
 
 // The bucket of a key.
 fn bucket(bytes: &[u8]) -> usize
-    ensures value { result ≡ bucket_of bytes.now }
-    ensures bound { result < 1024 }
+    ensures { result ≡ bucket_of bytes.now }
 {
-    let mut hash = bytes.len() % BUCKETS;
-    for b in part(bytes, 0, 64) {
-        hash = (hash * 31 + *b as usize) % BUCKETS;
-    }
-    hash
+    bytes
+        .iter()
+        .take(64)
+        .fold(bytes.len() % BUCKETS, |hash, b| (hash * 31 + *b as usize) % BUCKETS)
 }
 
-// Whether a key on a chain has these bytes. `first` is one more than the place of the chain's first
-// key, and `next` has the same of the key after each, 0 at the end.
-fn on_chain(text: &[u8], keys: &[RawIdent], next: &[u16], first: usize, bytes: &[u8]) -> bool
-    requires keys { first ≤ length keys.now }
-    requires next { first ≤ length next.now }
-    requires chained { Chained (bucket_at text.now keys.now) next.now first }
-    requires bucket { (j : ℕ) → first ≡ suc j → bucket_at text.now keys.now j ≡ bucket_of bytes.now }
-    ensures { Decides result (Among text.now keys.now first bytes.now) }
+// Whether one of some keys has these bytes. `first` is the place of the last of them in the bytes'
+// bucket, and `next` has for each key the place of the one before it in its bucket.
+fn on_chain(
+    text: &[u8],
+    keys: &[RawIdent],
+    next: &[Option<u16>],
+    first: Option<u16>,
+    bytes: &[u8],
+) -> bool
+    requires next { length keys.now ≤ length next.now }
+    requires chained { Chained (bucket_at text.now keys.now) next.now (length keys.now) }
+    requires first { first ≡ last_in (bucket_at text.now keys.now) (bucket_of bytes.now) (length keys.now) }
+    ensures { Decides result (Among text.now keys.now bytes.now) }
 {
     let mut at = first;
-    while at != 0 {
-        if keys[at - 1].has_bytes(text, bytes) {
+    while let Some(i) = at {
+        if keys[i as usize].has_bytes(text, bytes) {
             return true;
         }
-        at = next[at - 1] as usize;
+        at = next[i as usize];
     }
     false
 }
 
 // By comparing each key with those before it in its bucket.
+#[tactic(auto, using(crate::proofs::Chains::bucket_low))]
 fn distinct_by_chains(text: &[u8], keys: &[RawIdent]) -> bool
     requires { length keys.now ≤ 4096 }
     ensures { Decides result (Distinct text.now keys.now) }
 {
-    let mut heads = [0u16; BUCKETS];
-    let mut next = [0u16; CHAINED];
-    for i in 0..keys.len() {
-        let bytes = keys[i].bytes(text);
-        let b = bucket(bytes);
-        if on_chain(text, keys, &next, heads[b] as usize, bytes) {
+    let mut heads = [None; BUCKETS];
+    let mut next = [None; CHAINED];
+    for (i, key) in keys.iter().enumerate() {
+        let bytes = key.bytes(text);
+        let head = &mut heads[bucket(bytes)];
+        if on_chain(text, &keys[..i], &next, *head, bytes) {
             return false;
         }
-        next[i] = heads[b];
-        heads[b] = (i + 1) as u16;
+        next[i] = head.replace(i as u16);
     }
     true
 }
