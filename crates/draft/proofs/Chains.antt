@@ -16,22 +16,30 @@ abbrev pub upto : Option ℕ → ℕ
 upto None = 0
 upto (Some j) = suc j
 
-module _ (bucket : ℕ → ℕ) (b : ℕ) where
-  -- it is one of the first n and in the bucket, and no key behind it is
-  abbrev pub IsLast : ℕ → Option ℕ → Type 0
-  IsLast n o = (upto o ≤ n) × ((j : ℕ) → o ≡ Some j → bucket j ≡ b) × ((k : ℕ) → upto o ≤ k → k < n → bucket k ≢ b)
+-- a place is one of the first n and in the bucket, and no place behind it is
+pub record IsLast (bucket : ℕ → ℕ) (b n : ℕ) (place : Option ℕ) : Type 0 where
+  pub low : upto place ≤ n
+  pub inside : (j : ℕ) → place ≡ Some j → bucket j ≡ b
+  pub none_past : (k : ℕ) → upto place ≤ k → k < n → bucket k ≢ b
 
-  pub last_is : (n : ℕ) → IsLast n (last_in bucket b n)
-  last_is zero = (zero-le, (λ j e. cc), (λ k low high. absurd (omega arith)))
-  last_is (suc n) =
-      let old = last_is n in
-      cond_both (eqb (bucket n) b) (Some n) (last_in bucket b n) (IsLast (suc n))
-      (λ e. (le_refl (suc n), (λ j is. ap bucket (sym (same_Some n j is)) ∙ eqb-true _ _ e), (λ k low high. absurd (omega arith))))
-      (λ e. (
-        omega (arith, old.0),
-        old.1,
-        (λ k low high. ⊎_elim (λ before. old.2 k low before) (λ here. let same : k ≡ n = omega arith in λ is. eqb-false _ _ e (ap bucket (sym same) ∙ is)) (cases_lt k n)),
-      ))
+pub last_is : (bucket : ℕ → ℕ) (b n : ℕ) → IsLast bucket b n (last_in bucket b n)
+last_is bucket b zero = record { low = zero-le; inside = λ j e. cc; none_past = λ k low high. absurd (omega arith) }
+last_is bucket b (suc n) =
+    let old = last_is bucket b n in
+    cond_both (eqb (bucket n) b) (Some n) (last_in bucket b n) (IsLast bucket b (suc n))
+    (λ e. record {
+      low = le_refl (suc n);
+      inside = λ j is. ap bucket (sym (same_Some n j is)) ∙ eqb-true _ _ e;
+      none_past = λ k low high. absurd (omega arith);
+    })
+    (λ e. record {
+      low = omega (arith, old.low);
+      inside = old.inside;
+      none_past = λ k low high is.
+      ⊎_elim (λ same. eqb-false _ _ e (ap bucket (sym same) ∙ is))
+      (⊎_elim (λ before. old.none_past k low before is) (λ past. omega arith))
+      (cases_order k n);
+    })
 
 -- one key more in the buckets, at the spot of its bucket
 module _ (bucket : ℕ → ℕ) (n spot : ℕ) (its : spot ≡ bucket n) where
@@ -86,33 +94,33 @@ module _ (text : List ℕ) (keys : List RawIdent) where
       fresh (j, omega arith, key_at-take i j (omega arith) ∙ same ∙ ap (key_at text keys) here ∙ sym its))
       (cases_lt k i)
 
-  module _ (bytes : List ℕ) where
-    -- a chain goes on in the bucket of the bytes, and no key past it has them
-    abbrev pub GoesOn : Option ℕ → Type 0
-    GoesOn at =
-        (upto at ≤ length keys)
-        × ((j : ℕ) → at ≡ Some j → bucket_at text keys j ≡ bucket_of bytes)
-        × ((k : ℕ) → upto at ≤ k → k < length keys → key_at text keys k ≡ bytes → ⊥)
+-- a chain goes on from a place in the bucket of the bytes, and no key past it has them
+pub record GoesOn (text : List ℕ) (keys : List RawIdent) (bytes : List ℕ) (at : Option ℕ) : Type 0 where
+  pub low : upto at ≤ length keys
+  pub inside : (j : ℕ) → at ≡ Some j → bucket_at text keys j ≡ bucket_of bytes
+  pub none_past : (k : ℕ) → upto at ≤ k → k < length keys → key_at text keys k ≢ bytes
 
-    pub chain_starts : (first : Option ℕ) → first ≡ last_in (bucket_at text keys) (bucket_of bytes) (length keys) → GoesOn first
-    chain_starts first is =
-        let last = subst (IsLast (bucket_at text keys) (bucket_of bytes) (length keys)) (sym is) (last_is (bucket_at text keys) (bucket_of bytes) (length keys)) in
-        (last.0, last.1, (λ k low high same. last.2 k low high (ap bucket_of same)))
+module _ (text : List ℕ) (keys : List RawIdent) (bytes : List ℕ) where
+  pub chain_starts : (first : Option ℕ) → first ≡ last_in (bucket_at text keys) (bucket_of bytes) (length keys) → GoesOn text keys bytes first
+  chain_starts first is =
+      let last = subst (IsLast (bucket_at text keys) (bucket_of bytes) (length keys)) (sym is) (last_is _ _ _) in
+      record { low = last.low; inside = last.inside; none_past = λ k low high same. last.none_past k low high (ap bucket_of same) }
 
-    -- one key on along a chain, to a lower place
-    pub chain_steps : (at : Option ℕ) (i : ℕ) (next : List (Option ℕ)) → at ≡ Some i → GoesOn at → (key_at text keys i ≡ bytes → ⊥) → Chained (bucket_at text keys) next (length keys) → (upto (get_or next i None) < upto at) × GoesOn (get_or next i None)
-    chain_steps at i next is on other chained =
-        let bucket = bucket_at text keys in
-        let high : suc i ≤ length keys = subst (λ o. upto o ≤ length keys) is on.0 in
-        let last = subst (IsLast bucket (bucket_of bytes) i) (sym (chained i high ∙ ap (λ b. last_in bucket b i) (on.1 i is))) (last_is bucket (bucket_of bytes) i) in
-        let low = last.0 in (
-          rw is (omega arith),
-          (
-            omega arith,
-            last.1,
-            (λ k low high same.
-                ⊎_elim (λ e. other (ap (key_at text keys) (sym e) ∙ same))
-                (⊎_elim (λ before. last.2 k low before (ap bucket_of same)) (λ past. on.2 k (rw is past) high same))
-                (cases_order k i)),
-          ),
-        )
+  -- one key on along a chain, to a lower place
+  pub chain_steps : (at : Option ℕ) (i : ℕ) (next : List (Option ℕ)) → at ≡ Some i → GoesOn text keys bytes at → key_at text keys i ≢ bytes → Chained (bucket_at text keys) next (length keys)
+      → (upto (get_or next i None) < upto at) × GoesOn text keys bytes (get_or next i None)
+  chain_steps at i next is on other chained =
+      let bucket = bucket_at text keys in
+      let here = subst (GoesOn text keys bytes) is on in
+      let goes = chained i here.low ∙ ap (λ b. last_in bucket b i) (here.inside i refl) in
+      let last = subst (IsLast bucket (bucket_of bytes) i) (sym goes) (last_is _ _ _) in (
+        rw is (omega (arith, last.low)),
+        record {
+          low = omega (arith, last.low, here.low);
+          inside = last.inside;
+          none_past = λ k low high same.
+          ⊎_elim (λ e. other (ap (key_at text keys) (sym e) ∙ same))
+          (⊎_elim (λ before. last.none_past k low before (ap bucket_of same)) (λ past. here.none_past k past high same))
+          (cases_order k i);
+        },
+      )

@@ -1,4 +1,4 @@
-use Rattle.std.proofs.Common.{◌≡◌, ◌<◌, None, take, get_or, sym, refl, ap, ◌∙◌, le_refl, arith, length-set}
+use Rattle.std.proofs.Common.{rules, ◌≡◌, ◌<◌, None, take, get_or, sym, refl, ap, ◌∙◌, le_refl, arith, length-set}
 use Rattle.std.proofs.lemmas.List.{get_or-replicate, length-take-le}
 use Rattle.std.proofs.lemmas.Bool.Decides.{not_from_Decides}
 use Rattle.draft.specs.Buckets.{bucket_at, bucket_of, last_in}
@@ -6,16 +6,22 @@ use Rattle.draft.proofs.Chains.{bucket_low, heads_more, chained_more, last_in-ta
 use Rattle.draft.proofs.keys.distinct_by_chains.Goals as goal
 
 pub loop-i-init : goal.loop-i-init
-loop-i-init c = (refl, refl, (λ b low. get_or-replicate 1024 b None None low), (λ j low. absurd (omega arith)), (λ j k less low. absurd (omega arith)))
+loop-i-init c = record {
+  heads_len = refl;
+  next_len = refl;
+  heads = λ b low. get_or-replicate 1024 b None None low;
+  next = λ j low. absurd (omega arith);
+  distinct = λ j k less low. absurd (omega arith);
+}
 
 pub on_chain-requires-clause-chained : goal.on_chain-requires-clause-chained
-on_chain-requires-clause-chained c = Chained-take c.args.text.now c.args.keys.now c.loop-i.i c.loop-i.next (omega arith) c.loop-i.invariant.3
+on_chain-requires-clause-chained c = Chained-take c.args.text.now c.args.keys.now c.loop-i.i c.loop-i.next (omega arith) c.loop-i.invariant.next
 
 pub on_chain-requires-clause-first : goal.on_chain-requires-clause-first
 on_chain-requires-clause-first c =
     let text = c.args.text.now in
     let keys = c.args.keys.now in
-    c.loop-i.invariant.2 c.bucket.result (omega (arith, bucket_low c.bytes-bytes.result.now, c.bucket.ensures))
+    c.loop-i.invariant.heads c.bucket.result (omega (arith, bucket_low c.bytes-bytes.result.now, c.bucket.ensures))
     ∙ ap (λ b. last_in (bucket_at text keys) b c.loop-i.i) c.bucket.ensures
     ∙ last_in-take text keys c.loop-i.i _ c.loop-i.i (le_refl c.loop-i.i)
     ∙ ap (last_in (bucket_at text (take c.loop-i.i keys)) (bucket_of c.bytes-bytes.result.now)) (sym (length-take-le c.loop-i.i keys (omega arith)))
@@ -27,10 +33,11 @@ loop-i-preserved c =
     let bucket = bucket_at text keys in
     let spot = c.bucket.result in
     let its : spot ≡ bucket c.loop-i.i = c.bucket.ensures ∙ ap bucket_of c.bytes-bytes.ensures in
-    let low : spot < 1024 = omega (arith, bucket_low c.bytes-bytes.result.now, c.bucket.ensures) in (
-      length-set _ _ _ ∙ c.loop-i.invariant.0,
-      length-set _ _ _ ∙ c.loop-i.invariant.1,
-      (λ b within. heads_more bucket c.loop-i.i spot its c.loop-i.heads _ c.replace.ensures.after (omega arith) b (c.loop-i.invariant.2 b within)),
-      chained_more bucket c.loop-i.i spot its c.loop-i.next _ (omega arith) (c.replace.ensures.value ∙ c.loop-i.invariant.2 spot low) c.loop-i.invariant.3,
-      distinct_more text keys c.loop-i.i _ c.loop-i-test.true c.bytes-bytes.ensures (not_from_Decides _ c.on_chain.ensures c.if-on_chain.false) c.loop-i.invariant.4,
-    )
+    let low : spot < 1024 = omega (arith, bucket_low c.bytes-bytes.result.now, c.bucket.ensures) in
+    record {
+      heads_len = length-set _ _ _ ∙ c.loop-i.invariant.heads_len;
+      next_len = length-set _ _ _ ∙ c.loop-i.invariant.next_len;
+      heads = λ b within. heads_more bucket c.loop-i.i spot its c.loop-i.heads _ c.replace.ensures.after (omega arith) b (c.loop-i.invariant.heads b within);
+      next = chained_more bucket c.loop-i.i spot its c.loop-i.next _ (omega arith) (c.replace.ensures.value ∙ c.loop-i.invariant.heads spot low) c.loop-i.invariant.next;
+      distinct = distinct_more text keys c.loop-i.i _ c.loop-i-test.true c.bytes-bytes.ensures (search (rules, not_from_Decides)) c.loop-i.invariant.distinct;
+    }
