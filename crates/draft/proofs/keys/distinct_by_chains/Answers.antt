@@ -2,7 +2,7 @@ use Rattle.std.proofs.Common.{rules, ◌≡◌, ◌<◌, None, take, get_or, sym
 use Rattle.std.proofs.lemmas.List.{get_or-replicate, length-take-le}
 use Rattle.std.proofs.lemmas.Bool.Decides.{not_from_Decides}
 use Rattle.draft.specs.Buckets.{bucket_at, bucket_of, last_in}
-use Rattle.draft.proofs.Chains.{bucket_low, heads_more, chained_more, last_in-take, Chained-take, distinct_more}
+use Rattle.draft.proofs.Chains.{bucket_low, heads_more, chained_more, first-take, Chained-take, distinct_more}
 use Rattle.draft.proofs.keys.distinct_by_chains.Goals as goal
 
 pub loop-i-init : goal.loop-i-init
@@ -15,29 +15,25 @@ loop-i-init c = record {
 }
 
 pub on_chain-requires-clause-chained : goal.on_chain-requires-clause-chained
-on_chain-requires-clause-chained c = Chained-take c.args.text.now c.args.keys.now c.loop-i.i c.loop-i.next (omega arith) c.loop-i.invariant.next
+on_chain-requires-clause-chained c = search (Chained-take, c.loop-i.invariant.next)
 
 pub on_chain-requires-clause-first : goal.on_chain-requires-clause-first
 on_chain-requires-clause-first c =
-    let text = c.args.text.now in
-    let keys = c.args.keys.now in
     c.loop-i.invariant.heads c.bucket.result (omega (arith, bucket_low c.bytes-bytes.result.now, c.bucket.ensures))
-    ∙ ap (λ b. last_in (bucket_at text keys) b c.loop-i.i) c.bucket.ensures
-    ∙ last_in-take text keys c.loop-i.i _ c.loop-i.i (le_refl c.loop-i.i)
-    ∙ ap (last_in (bucket_at text (take c.loop-i.i keys)) (bucket_of c.bytes-bytes.result.now)) (sym (length-take-le c.loop-i.i keys (omega arith)))
+    ∙ ap (λ b. last_in (bucket_at c.args.text.now c.args.keys.now) b c.loop-i.i) c.bucket.ensures
+    ∙ sym (first-take c.args.text.now c.args.keys.now c.loop-i.i c.loop-i.auto.i-end _)
 
 pub loop-i-preserved : goal.loop-i-preserved
 loop-i-preserved c =
-    let text = c.args.text.now in
-    let keys = c.args.keys.now in
-    let bucket = bucket_at text keys in
+    let bucket = bucket_at c.args.text.now c.args.keys.now in
+    let i = c.loop-i.i in
     let spot = c.bucket.result in
-    let its : spot ≡ bucket c.loop-i.i = c.bucket.ensures ∙ ap bucket_of c.bytes-bytes.ensures in
+    let its : spot ≡ bucket i = c.bucket.ensures ∙ ap bucket_of c.bytes-bytes.ensures in
     let low : spot < 1024 = omega (arith, bucket_low c.bytes-bytes.result.now, c.bucket.ensures) in
     record {
       heads_len = length-set _ _ _ ∙ c.loop-i.invariant.heads_len;
       next_len = length-set _ _ _ ∙ c.loop-i.invariant.next_len;
-      heads = λ b within. heads_more bucket c.loop-i.i spot its c.loop-i.heads _ c.replace.ensures.after (omega arith) b (c.loop-i.invariant.heads b within);
-      next = chained_more bucket c.loop-i.i spot its c.loop-i.next _ (omega arith) (c.replace.ensures.value ∙ c.loop-i.invariant.heads spot low) c.loop-i.invariant.next;
-      distinct = distinct_more text keys c.loop-i.i _ c.loop-i-test.true c.bytes-bytes.ensures (search (rules, not_from_Decides)) c.loop-i.invariant.distinct;
+      heads = λ b within. heads_more bucket i spot its c.loop-i.heads _ c.replace.ensures.after (omega arith) b (c.loop-i.invariant.heads b within);
+      next = chained_more bucket i spot its c.loop-i.next _ (omega arith) (c.replace.ensures.value ∙ c.loop-i.invariant.heads spot low) c.loop-i.invariant.next;
+      distinct = search (distinct_more, not_from_Decides, c.loop-i.invariant.distinct);
     }
