@@ -1,5 +1,5 @@
 -- Chains of keys in one bucket. Assumes nothing.
-use Rattle.std.proofs.Common.{◌≡◌, ◌≢◌, ℕ, zero, suc, ◌+◌, ◌*◌, ◌<◌, ◌≤◌, Option, Some, None, List, length, take, get_or, set, sym, refl, ap, ◌∙◌, subst, add-one, arith, mod-lt, lit<}
+use Rattle.std.proofs.Common.{◌≡◌, ◌≢◌, ℕ, zero, suc, ◌+◌, ◌<◌, ◌≤◌, Option, Some, None, List, length, take, get_or, set, sym, refl, ap, ◌∙◌, subst, add-one, arith}
 use Rattle.std.proofs.lemmas.Bool.Decides.{nat_tests}
 use Rattle.std.proofs.lemmas.Grind.{common_steps}
 use Rattle.std.proofs.lemmas.List.{get_or-take, length-take-le}
@@ -9,7 +9,7 @@ use Rattle.draft.specs.Keys.{key_at, Among}
 use Rattle.draft.specs.declared.drafts.RawIdent.{RawIdent}
 
 pub bucket_low : (bytes : List ℕ) → bucket_of bytes < 1024
-bucket_low bytes = fold_along mix mix (λ a b. a < 1024) (λ a b x low. mod-lt (a * 31 + x) (lit< tt)) _ 0 (take 64 bytes) (mod-lt (length bytes) (lit< tt))
+bucket_low bytes = fold_along mix mix (λ hash none. hash < 1024) (λ hash none b low. omega arith) _ 0 (take 64 bytes) (omega arith)
 
 -- how many keys there are up to a place
 abbrev pub upto : Option ℕ → ℕ
@@ -56,8 +56,8 @@ module _ (text : List ℕ) (keys : List RawIdent) (i : ℕ) where
   last_in-take b (suc n) low = rw (key_at-take n (omega arith), last_in-take b n (omega arith)) refl
 
   module _ (within : i ≤ length keys) where
-    pub first-take : (b : ℕ) → last_in (bucket_at text (take i keys)) b (length (take i keys)) ≡ last_in (bucket_at text keys) b i
-    first-take b = rw length-take-le (last_in-take b i (omega arith))
+    pub first-take : (bytes : List ℕ) (spot : ℕ) (first : Option ℕ) → spot ≡ bucket_of bytes → first ≡ last_in (bucket_at text keys) spot i → first ≡ last_in (bucket_at text (take i keys)) (bucket_of bytes) (length (take i keys))
+    first-take bytes spot first its old = rw (← its, length-take-le, last_in-take spot i (omega arith)) old
 
     pub Chained-take : (next : List (Option ℕ)) → Chained (bucket_at text keys) next i → Chained (bucket_at text (take i keys)) next (length (take i keys))
     Chained-take next old j low = grind (arith, length-take-le i keys within, old j, key_at-take j, last_in-take (bucket_at text keys j) j)

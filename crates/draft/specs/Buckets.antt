@@ -3,10 +3,11 @@ use Rattle.std.specs.Prelude.{◌≡◌, ℕ, zero, suc, ◌+◌, ◌*◌, ◌%�
 use Rattle.draft.specs.Keys.{key_at}
 use Rattle.draft.specs.declared.drafts.RawIdent.{RawIdent}
 
--- the bucket of a key: a number made of its length and of its first 64 bytes
+-- the number of a bucket, and a byte more
 abbrev pub mix : ℕ → ℕ → ℕ
 mix hash b = (hash * 31 + b) % 1024
 
+-- the bucket of a key: a number made of its length and of its first 64 bytes
 abbrev pub bucket_of : List ℕ → ℕ
 bucket_of bytes = fold mix (length bytes % 1024) (take 64 bytes)
 

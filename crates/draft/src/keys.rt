@@ -51,10 +51,10 @@ fn distinct_by_pairs(text: &[u8], keys: &[RawIdent]) -> bool
 fn bucket(bytes: &[u8]) -> usize
     ensures { result ≡ bucket_of bytes.now }
 {
-    bytes
-        .iter()
-        .take(64)
-        .fold(bytes.len() % BUCKETS, |hash, b| (hash * 31 + *b as usize) % BUCKETS)
+    bytes.iter().take(64).fold(
+        bytes.len() % BUCKETS,
+        |hash, b| (hash * 31 + *b as usize) % BUCKETS,
+    )
 }
 
 // Whether one of some keys has these bytes. `first` is the place of the last of them in the bytes'

@@ -1,7 +1,7 @@
-use Rattle.std.proofs.Common.{rules, ◌≡◌, ◌<◌, None, take, get_or, sym, refl, ap, ◌∙◌, le_refl, arith, length-set}
-use Rattle.std.proofs.lemmas.List.{get_or-replicate, length-take-le}
+use Rattle.std.proofs.Common.{◌≡◌, ◌<◌, None, refl, ap, ◌∙◌, arith, length-set}
+use Rattle.std.proofs.lemmas.List.{get_or-replicate}
 use Rattle.std.proofs.lemmas.Bool.Decides.{not_from_Decides}
-use Rattle.draft.specs.Buckets.{bucket_at, bucket_of, last_in}
+use Rattle.draft.specs.Buckets.{bucket_at, bucket_of}
 use Rattle.draft.proofs.Chains.{bucket_low, heads_more, chained_more, first-take, Chained-take, distinct_more}
 use Rattle.draft.proofs.keys.distinct_by_chains.Goals as goal
 
@@ -19,9 +19,8 @@ on_chain-requires-clause-chained c = search (Chained-take, c.loop-i.invariant.ne
 
 pub on_chain-requires-clause-first : goal.on_chain-requires-clause-first
 on_chain-requires-clause-first c =
-    c.loop-i.invariant.heads c.bucket.result (omega (arith, bucket_low c.bytes-bytes.result.now, c.bucket.ensures))
-    ∙ ap (λ b. last_in (bucket_at c.args.text.now c.args.keys.now) b c.loop-i.i) c.bucket.ensures
-    ∙ sym (first-take c.args.text.now c.args.keys.now c.loop-i.i c.loop-i.auto.i-end _)
+    let low : c.bucket.result < 1024 = rw c.bucket.ensures (bucket_low c.bytes-bytes.result.now) in
+    search (first-take, c.loop-i.invariant.heads c.bucket.result low)
 
 pub loop-i-preserved : goal.loop-i-preserved
 loop-i-preserved c =
@@ -29,7 +28,7 @@ loop-i-preserved c =
     let i = c.loop-i.i in
     let spot = c.bucket.result in
     let its : spot ≡ bucket i = c.bucket.ensures ∙ ap bucket_of c.bytes-bytes.ensures in
-    let low : spot < 1024 = omega (arith, bucket_low c.bytes-bytes.result.now, c.bucket.ensures) in
+    let low : spot < 1024 = rw c.bucket.ensures (bucket_low c.bytes-bytes.result.now) in
     record {
       heads_len = length-set _ _ _ ∙ c.loop-i.invariant.heads_len;
       next_len = length-set _ _ _ ∙ c.loop-i.invariant.next_len;
