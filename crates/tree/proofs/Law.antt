@@ -3,7 +3,7 @@ use Rattle.std.proofs.Common.{◌≡◌, ℕ, zero, suc, ◌<◌, ◌≤◌, Boo
 use Rattle.std.proofs.lemmas.Bool.{cases_lt, true≢false}
 use Rattle.tree.specs.Forests.{AcceptedOf, AllOf, WalkLawOf}
 use Rattle.tree.specs.Lines.{Follow, Before, In, Ascending, AllLines}
-use Rattle.tree.specs.Runs.{run}
+use Rattle.tree.specs.Runs.{refused_path, run}
 use Rattle.tree.specs.Walks.{after, path_of, WalkLaw}
 use Rattle.tree.specs.declared.walks.Outcome.{Outcome}
 use Rattle.tree.specs.declared.walks.Outcome.TheVariants.{Finished, Stopped}
@@ -146,24 +146,16 @@ module _ {S N : Type 0} (Line : List ℕ → Type 0) (f : List ℕ → List N) (
     stopped = λ e. one_no left (stopped e);
   }
 
--- the walk law of a walk that ended as a run over the paths of all lines did: r is the recursion's answer
+-- the walk law of a walk that ended as a run over the paths of all lines did
 module _ {S N : Type 0} (Line : List ℕ → Type 0) (f : List ℕ → List N) (next : S → List N → S) (accepts : S → List N → Bool) (initial left : List N) (s s' : S)
     (ls : List (List ℕ)) (all_lines : AllOf Line ls) where
-  finished_when : (r : Bool) → (r ≡ true → left ≡ initial) → cond r Finished Stopped ≡ Finished → (cond {A = Option (List N)} r None (Some left) ≡ None) × (left ≡ initial)
-  finished_when true back e = (refl, back refl)
-  finished_when false back e = let z : ◌≡◌ {A = ℕ} 0 1 = cc in absurd (omega arith)
-
-  stopped_when : (r : Bool) → cond r Finished Stopped ≡ Stopped → cond {A = Option (List N)} r None (Some left) ≡ Some left
-  stopped_when true e = let z : ◌≡◌ {A = ℕ} 0 1 = cc in absurd (omega arith)
-  stopped_when false e = refl
-
-  pub walk_law_of : (r : Bool) → run next accepts s (map f ls) ≡ (s', cond r None (Some left)) → (r ≡ true → left ≡ initial)
-      → (part : List (List ℕ)) × WalkLawOf Line f next accepts initial s (cond r Finished Stopped) left s' part
-  walk_law_of r e back =
+  pub walk_law_of : (outcome : Outcome) → run next accepts s (map f ls) ≡ (s', refused_path outcome left) → (outcome ≡ Finished → left ≡ initial)
+      → (part : List (List ℕ)) × WalkLawOf Line f next accepts initial s outcome left s' part
+  walk_law_of outcome e back =
       let part = shown next accepts f s ls in (
         part,
-        law Line f next accepts initial s ls all_lines part (s', cond r None (Some left)) (subst (Part next accepts f s ls part) e (part_of next accepts f s ls))
-            (cond r Finished Stopped) left (finished_when r back) (stopped_when r),
+        law Line f next accepts initial s ls all_lines part (s', refused_path outcome left) (subst (Part next accepts f s ls part) e (part_of next accepts f s ls))
+            outcome left (λ e'. (ap (λ x. refused_path x left) e', back e')) (λ e'. ap (λ x. refused_path x left) e'),
       )
 
 -- the same over the lines of descent from one name
@@ -180,8 +172,8 @@ module _ {S N : Type 0} (children : N → List N) (next : S → List N → S) (a
     stopped = w.stopped;
   }
 
-  pub walk_law : (r : Bool) → run next accepts s (map (path_of children initial start) ls) ≡ (s', cond r None (Some left)) → (r ≡ true → left ≡ initial)
-      → (part : List (List ℕ)) × WalkLaw children next accepts start initial s (cond r Finished Stopped) left s' part
-  walk_law r e back =
-      let w = walk_law_of (Follow children start) (path_of children initial start) next accepts initial left s s' ls (record { only = all_lines.only; each = all_lines.each; once = all_lines.once }) r e back in
-      (w.0, over_one (cond r Finished Stopped) w.0 w.1)
+  pub walk_law : (outcome : Outcome) → run next accepts s (map (path_of children initial start) ls) ≡ (s', refused_path outcome left) → (outcome ≡ Finished → left ≡ initial)
+      → (part : List (List ℕ)) × WalkLaw children next accepts start initial s outcome left s' part
+  walk_law outcome e back =
+      let w = walk_law_of (Follow children start) (path_of children initial start) next accepts initial left s s' ls (record { only = all_lines.only; each = all_lines.each; once = all_lines.once }) outcome e back in
+      (w.0, over_one outcome w.0 w.1)

@@ -1,5 +1,5 @@
+pub mod Admitted
 pub mod Asked
-pub mod Each
 pub mod Forest
 pub mod Law
 pub mod Lengths

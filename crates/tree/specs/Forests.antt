@@ -1,8 +1,9 @@
 -- The walk over several names in turn, each from an empty path, as over the statements of a script. Its law is the walk
 -- law over the lines from these names. Assumes nothing.
-use Rattle.std.specs.Prelude.{◌≡◌, ℕ, zero, suc, ◌<◌, Bool, true, cond, List, [], ◌∷◌, map, length, take, Some, None, Ok, Err, Option, Result, nat_le, slice_index_or}
+use Rattle.std.specs.Prelude.{◌≡◌, ℕ, zero, suc, ◌<◌, Bool, true, List, [], ◌∷◌, map, length, take, Some, None, Ok, Err, Option, Result, nat_le, slice_index_or}
 use Rattle.tree.specs.Paths.{names_of, capacity_of}
 use Rattle.tree.specs.declared.stacks.PathStack.{PathStack}
+use Rattle.tree.specs.Answers.{first_failing}
 use Rattle.tree.specs.Lines.{Follow, along, Before, In, Ascending}
 use Rattle.tree.specs.Walks.{after, first_missing}
 use Rattle.tree.specs.declared.walks.Outcome.{Outcome}
@@ -63,8 +64,7 @@ pub record WalkLawOf {S N : Type 0} (Line : List ℕ → Type 0) (path : List �
 
 -- fault 9 at the first of some names that is higher than the path is long
 abbrev pub first_high : {N F : Type 0} → (N → ℕ) → ℕ → List N → Option (WalkFault N F)
-first_high heights capacity [] = None
-first_high heights capacity (n ∷ ns) = cond (nat_le (heights n) capacity) (first_high heights capacity ns) (Some (Path (record { place = n })))
+first_high heights capacity names = first_failing (λ n. nat_le (heights n) capacity) (λ n. Path (record { place = n })) names
 
 abbrev pub each_room : {N F : Type 0} → (N → ℕ) → List N → ℕ → Option F → Option (WalkFault N F)
 each_room heights roots capacity (Some f) = Some (Tree f)

@@ -1,6 +1,7 @@
 -- The walk law: which lines of descent a walk shows, in which order, and what it leaves. Stated over lines of
 -- descent and document order alone; how the code goes about it appears nowhere here. Assumes nothing.
 use Rattle.std.specs.Prelude.{◌≡◌, ℕ, ◌+◌, ◌<◌, Bool, true, cond, List, [], ◌∷◌, ◌++◌, map, length, take, Some, None, Ok, Err, Option, Result, nat_le, slice_index_or}
+use Rattle.tree.specs.Answers.{first_failing}
 use Rattle.tree.specs.Lines.{Follow, along, Before, In, Ascending}
 use Rattle.tree.specs.Paths.{names_of, capacity_of}
 use Rattle.tree.specs.declared.stacks.PathStack.{PathStack}
@@ -44,8 +45,7 @@ pub record WalkLaw {S N : Type 0} (children : N → List N) (next : S → List N
 
 -- the fault at the first of some names that the tree does not know, or none
 abbrev pub first_missing : {N F : Type 0} → (N → Bool) → (N → F) → List N → Option F
-first_missing known missing [] = None
-first_missing known missing (n ∷ ns) = cond (known n) (first_missing known missing ns) (Some (missing n))
+first_missing known missing names = first_failing known missing names
 
 -- The refusal that is due: fault 2 at the start, then at the initial path from its beginning; then fault 9 at
 -- the start where the path's length and the start's height together are over the path's capacity.

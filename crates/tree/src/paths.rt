@@ -63,7 +63,7 @@ impl<'a, N: Copy> PathStack<'a, N> {
     pub fn names(&self) -> &[N]
         ensures { result.now ≡ names_of self.now }
     {
-        &self.places[0..self.len]
+        &self.places[..self.len]
     }
 
     /// One name more at the end. On a full path it is fault 9 at that name, and nothing changes.
@@ -84,13 +84,8 @@ impl<'a, N: Copy> PathStack<'a, N> {
         ensures cases { Popped self.old result self.new }
         ensures memory { SameMemory self.old self.new }
     {
-        if self.len == 0 {
-            return None;
-        }
-        let at = self.len - 1;
-        let last = self.places[at];
-        self.len = at;
-        Some(last)
+        self.len = self.len.checked_sub(1)?;
+        Some(self.places[self.len])
     }
 
     /// Keeps the first names, at most as many as told.
@@ -98,9 +93,7 @@ impl<'a, N: Copy> PathStack<'a, N> {
         ensures names { names_of self.new ≡ take len (names_of self.old) }
         ensures memory { SameMemory self.old self.new }
     {
-        if len < self.len {
-            self.len = len;
-        }
+        self.len = self.len.min(len);
     }
 
     // One name more where it is known to fit.
@@ -109,8 +102,7 @@ impl<'a, N: Copy> PathStack<'a, N> {
         ensures names { names_of self.new ≡ names_of self.old ++ n ∷ [] }
         ensures memory { SameMemory self.old self.new }
     {
-        let at = self.len;
-        self.places[at] = n;
-        self.len = at + 1;
+        self.places[self.len] = n;
+        self.len += 1;
     }
 }

@@ -1,10 +1,12 @@
 //! The walk: every line of descent, shown once and in document order, up to the first no.
-ghost use Rattle.std.specs.Prelude.{◌≡◌, ℕ, ◌+◌, ◌≤◌, true, List, if◌then◌else◌, Some, None};
+ghost use Rattle.std.specs.Prelude.{◌≡◌, ℕ, ◌+◌, ◌≤◌, true};
+ghost use Rattle.tree.specs.Answers.{passed_unless};
 ghost use Rattle.tree.specs.Faults.{walk_layer, walk_number};
 ghost use Rattle.tree.specs.Paths.{SameMemory, capacity_of, names_of};
-ghost use Rattle.tree.specs.Runs.{paths as shown_paths, run};
-ghost use Rattle.tree.specs.Walks.{WalkLaw, Walked, first_missing, refusal};
-ghost use Rattle.tree.specs.declared.walks.Outcome.TheVariants.{Finished, Stopped};
+ghost use Rattle.tree.specs.Runs.{paths as shown_paths, refused_path, run};
+ghost use Rattle.tree.specs.Walks.{Walked, first_missing, refusal};
+ghost use Rattle.tree.specs.declared.walks.Outcome.TheVariants.{Finished};
+ghost use Rattle.tree.specs.declared.walks.WalkFault.TheVariants.{Tree};
 
 use crate::faults::{Fault, Layer};
 use crate::paths::PathFault;
@@ -17,19 +19,6 @@ use crate::visitors::Visitor;
 pub enum Outcome {
     Finished,
     Stopped,
-}
-
-impl Outcome {
-    // Finished where all lines were shown and accepted.
-    pub(crate) fn after(all: bool) -> Outcome
-        ensures { result ≡ (if all then Finished else Stopped) }
-    {
-        if all {
-            Outcome::Finished
-        } else {
-            Outcome::Stopped
-        }
-    }
 }
 
 /// A walk's refusal: the tree's own fault at an unknown name (2), or a path that is too short (9).
@@ -59,81 +48,68 @@ impl<N, F: Fault> Fault for WalkFault<N, F> {
     }
 }
 
-// The fault at the first name that the tree does not know.
-pub(crate) fn first_unknown<T: Tree>(tree: &T, names: &[T::Name]) -> Option<T::Fault>
-    ensures { result ≡ first_missing (T.known tree.now) (T.missing tree.now) names.now }
-{
-    for n in names {
-        if let Err(fault) = tree.height(*n) {
-            return Some(fault);
-        }
+/// A tree's own fault, as `?` passes it on.
+impl<N, F> From<F> for WalkFault<N, F> {
+    ghost from_gives = { λ f r. r ≡ Tree f };
+
+    fn from(fault: F) -> WalkFault<N, F> {
+        WalkFault::Tree(fault)
     }
-    None
 }
 
-// Shows the lines from a known name, behind the path that leads to it; false after a no.
+// The tree's fault at the first name that it does not know.
+pub(crate) fn all_known<T: Tree>(tree: &T, names: &[T::Name]) -> Result<(), T::Fault>
+    ensures { result ≡ passed_unless (first_missing (T.known tree.now) (T.missing tree.now) names.now) }
+{
+    for n in names {
+        tree.height(*n)?;
+    }
+    Ok(())
+}
+
+// Shows the lines from a known name, behind the path that leads to it.
 pub(crate) fn show<T: Tree, V: Visitor<T>>(
     tree: &T,
     n: T::Name,
     path: &mut PathStack<'_, T::Name>,
     visitor: &mut V,
-) -> bool
+) -> Outcome
     requires known { T.known tree.now n ≡ true }
     requires room { path.old.len + T.heights tree.now n ≤ capacity_of path.old }
-    ensures ran { (h : ℕ) → T.heights tree.now n ≤ h → run (λ s q. V.next s tree.now q) (λ s q. V.accepts s tree.now q) visitor.old (shown_paths (T.children tree.now) h (names_of path.old) n) ≡ (visitor.new, (if result then None else Some (names_of path.new))) }
-    ensures back { result ≡ true → names_of path.new ≡ names_of path.old }
+    ensures ran { (h : ℕ) → T.heights tree.now n ≤ h → run (λ s q. V.next s tree.now q) (λ s q. V.accepts s tree.now q) visitor.old (shown_paths (T.children tree.now) h (names_of path.old) n) ≡ (visitor.new, refused_path result (names_of path.new)) }
+    ensures back { result ≡ Finished → names_of path.new ≡ names_of path.old }
     ensures memory { SameMemory path.old path.new }
 {
     path.put(n);
     if !visitor.visit(tree, path.names()) {
-        return false;
+        return Outcome::Stopped;
     }
     let count = tree.child_count(n).unwrap();
     for i in 0..count {
         let child = tree.child(n, i).unwrap();
-        if !show(tree, child, path, visitor) {
-            return false;
+        if let Outcome::Stopped = show(tree, child, path, visitor) {
+            return Outcome::Stopped;
         }
     }
     let _ = path.pop();
-    true
+    Outcome::Finished
 }
 
-// Shows the lines from a known start for which the path has room.
-fn show_lines<T: Tree, V: Visitor<T>>(
-    tree: &T,
-    start: T::Name,
-    path: &mut PathStack<'_, T::Name>,
-    visitor: &mut V,
-) -> Outcome
-    requires known { T.known tree.now start ≡ true }
-    requires room { path.old.len + T.heights tree.now start ≤ capacity_of path.old }
-    ensures law { (shown : List (List ℕ)) × WalkLaw (T.children tree.now) (λ s q. V.next s tree.now q) (λ s q. V.accepts s tree.now q) start (names_of path.old) visitor.old result (names_of path.new) visitor.new shown }
-    ensures memory { SameMemory path.old path.new }
-{
-    let all = show(tree, start, path, visitor);
-    Outcome::after(all)
-}
-
-// The refusal that is due before anything is shown, or none.
-fn refused<T: Tree>(
+// The refusal that is due before anything is shown.
+fn admit<T: Tree>(
     tree: &T,
     start: T::Name,
     path: &PathStack<'_, T::Name>,
-) -> Option<WalkFault<T::Name, T::Fault>>
-    ensures { result ≡ refusal (T.known tree.now) (T.heights tree.now) (T.missing tree.now) start path.now }
+) -> Result<(), WalkFault<T::Name, T::Fault>>
+    ensures { result ≡ passed_unless (refusal (T.known tree.now) (T.heights tree.now) (T.missing tree.now) start path.now) }
 {
-    let height = match tree.height(start) {
-        Ok(height) => height,
-        Err(fault) => return Some(WalkFault::Tree(fault)),
-    };
-    if let Some(fault) = first_unknown(tree, path.names()) {
-        return Some(WalkFault::Tree(fault));
-    }
+    let height = tree.height(start)?;
+    all_known(tree, path.names())?;
     if path.len() + height <= path.capacity() {
-        return None;
+        Ok(())
+    } else {
+        Err(WalkFault::Path(PathFault { place: start }))
     }
-    Some(WalkFault::Path(PathFault { place: start }))
 }
 
 /// Shows the lines of descent from a start, each by the initial path followed by the names along it.
@@ -149,8 +125,6 @@ pub fn walk<T: Tree, V: Visitor<T>>(
     ensures law { Walked (T.known tree.now) (T.heights tree.now) (T.children tree.now) (T.missing tree.now) (λ s q. V.next s tree.now q) (λ s q. V.accepts s tree.now q) start path.old visitor.old result path.new visitor.new }
     ensures memory { SameMemory path.old path.new }
 {
-    if let Some(fault) = refused(tree, start, path) {
-        return Err(fault);
-    }
-    Ok(show_lines(tree, start, path, visitor))
+    admit(tree, start, path)?;
+    Ok(show(tree, start, path, visitor))
 }

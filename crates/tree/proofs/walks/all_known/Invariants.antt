@@ -1,6 +1,6 @@
 use Rattle.std.proofs.Common.{◌≡◌, drop}
 use Rattle.tree.specs.Walks.{first_missing}
-use Rattle.tree.proofs.walks.first_unknown.Given as goal
+use Rattle.tree.proofs.walks.all_known.Given as goal
 
 -- the names passed are known
 abbrev pub invariant-loop-n : goal.invariant-loop-n
