@@ -1,12 +1,11 @@
 -- From a run over the paths of all lines to the walk law. Assumes nothing.
 use Rattle.std.proofs.Common.{◌≡◌, ℕ, zero, suc, ◌<◌, ◌≤◌, Bool, true, false, cond, List, [], ◌∷◌, map, length, get_or, take, Some, None, Option, sym, refl, ap, ◌∙◌, subst, ⊎_elim, arith}
 use Rattle.std.proofs.lemmas.Bool.{cases_lt, true≢false}
-use Rattle.tree.specs.Forests.{AcceptedOf, AllOf, WalkLawOf}
-use Rattle.tree.specs.Lines.{Follow, Before, In, Ascending, AllLines}
+use Rattle.tree.specs.Lines.{Before, In, Ascending, AllOf}
 use Rattle.tree.specs.Runs.{refused_path, run}
-use Rattle.tree.specs.Walks.{after, path_of, WalkLaw}
+use Rattle.tree.specs.Walks.{Accepted, WalkLawOf, after}
 use Rattle.tree.specs.declared.walks.Outcome.{Outcome}
-use Rattle.tree.specs.declared.walks.Outcome.TheVariants.{Finished, Stopped}
+use Rattle.tree.specs.declared.walks.Outcome.TheVariants.{Finished}
 use Rattle.tree.proofs.Order.{stands_before, stands_once}
 
 module _ {S N : Type 0} (next : S → List N → S) (accepts : S → List N → Bool) (f : List ℕ → List N) where
@@ -28,67 +27,39 @@ module _ {S N : Type 0} (next : S → List N → S) (accepts : S → List N → 
     whole : end.1 ≡ None → (length part ≡ length ls) × ((k : ℕ) → k < length part → said s part k ≡ true)
     halted : (q : List N) → end.1 ≡ Some q → (k : ℕ) × (suc k ≡ length part) × (said s part k ≡ false) × (q ≡ f (get_or part k []))
 
-  none_some : {X : Type 0} {x : X} → None ≡ Some x → ⊥
-  none_some e = let z : ◌≡◌ {A = ℕ} 0 1 = cc in omega arith
-
-  part_none : (s : S) → Part s [] [] (s, None)
-  part_none s = record {
-    holds = refl;
-    short = omega arith;
-    same = λ k lt. refl;
-    went = λ k lt. absurd (omega arith);
-    whole = λ _. (refl, λ k lt. absurd (omega arith));
-    halted = λ q e. absurd (none_some e);
-  }
-
-  part_no : (s : S) (l : List ℕ) (ls : List (List ℕ)) → accepts s (f l) ≡ false → Part s (l ∷ ls) (l ∷ []) (next s (f l), Some (f l))
-  part_no s l ls no' = record {
-    holds = refl;
-    short = omega arith;
-    same = elim [ zero ↦ λ lt. refl | suc k ↦ λ lt. absurd (omega arith) ];
-    went = λ k lt. absurd (omega arith);
-    whole = λ e. absurd (none_some (sym e));
-    halted = λ q e. (0, refl, no', cc);
-  }
-
-  part_yes : (s : S) (l : List ℕ) (ls part : List (List ℕ)) (end : S × Option (List N)) → accepts s (f l) ≡ true → Part (next s (f l)) ls part end → Part s (l ∷ ls) (l ∷ part) end
-  part_yes s l ls part end yes' p = record {
-    holds = p.holds;
-    short = omega (arith, p.short);
-    same = elim [ zero ↦ λ lt. refl | suc k ↦ λ lt. p.same k (omega arith) ];
-    went = elim [ zero ↦ λ lt. yes' | suc k ↦ λ lt. p.went k (omega arith) ];
-    whole = λ e. let w = p.whole e in (ap suc w.0, all w.1);
-    halted = λ q e. let r = p.halted q e in (suc r.0, ap suc r.1, r.2, r.3);
-  }
-    where
-      all : ((k : ℕ) → k < length part → said (next s (f l)) part k ≡ true) → (k : ℕ) → k < suc (length part) → said s (l ∷ part) k ≡ true
-      all rest zero lt = yes'
-      all rest (suc k) lt = rest k (omega arith)
-
   part_of : (s : S) (ls : List (List ℕ)) → Part s ls (shown s ls) (run next accepts s (map f ls))
-  part_of s [] = part_none s
+  part_of s [] = record { holds = refl; short = omega arith; same = λ k lt. refl; went = λ k lt. absurd (omega arith); whole = λ _. (refl, λ k lt. absurd (omega arith)); halted = λ q e. cc }
   part_of s (l ∷ ls) = go (accepts s (f l)) refl (part_of (next s (f l)) ls)
     where
       go : (b : Bool) → accepts s (f l) ≡ b → Part (next s (f l)) ls (shown (next s (f l)) ls) (run next accepts (next s (f l)) (map f ls))
           → Part s (l ∷ ls) (l ∷ cond b (shown (next s (f l)) ls) []) (cond b (run next accepts (next s (f l)) (map f ls)) (next s (f l), Some (f l)))
-      go true e p = part_yes s l ls _ _ e p
-      go false e p = part_no s l ls e
+      go true yes' p = record {
+        holds = p.holds;
+        short = omega (arith, p.short);
+        same = elim [ zero ↦ λ lt. refl | suc k ↦ λ lt. p.same k (omega arith) ];
+        went = elim [ zero ↦ λ lt. yes' | suc k ↦ λ lt. p.went k (omega arith) ];
+        whole = λ e. let w = p.whole e in (ap suc w.0, elim [ zero ↦ λ lt. yes' | suc k ↦ λ lt. w.1 k (omega arith) ]);
+        halted = λ q e. let r = p.halted q e in (suc r.0, ap suc r.1, r.2, r.3);
+      }
+      go false no' p = record {
+        holds = refl;
+        short = omega arith;
+        same = elim [ zero ↦ λ lt. refl | suc k ↦ λ lt. absurd (omega arith) ];
+        went = λ k lt. absurd (omega arith);
+        whole = λ e. cc;
+        halted = λ q e. (0, refl, no', cc);
+      }
 
-module _ {S N : Type 0} (Line : List ℕ → Type 0) (f : List ℕ → List N) (next : S → List N → S) (accepts : S → List N → Bool) (initial : List N) (s : S)
+module _ {S N : Type 0} (Line : List ℕ → Type 0) (f : List ℕ → List N) (next : S → List N → S) (accepts : S → List N → Bool) (s : S)
     (ls : List (List ℕ)) (all_lines : AllOf Line ls) (part : List (List ℕ)) (end : S × Option (List N)) (p : Part next accepts f s ls part end) where
   abbrev Yes : List ℕ → Type 0
-  Yes line = AcceptedOf f next accepts s part line
-
-  at_list : (k : ℕ) → k < length part → k < length ls
-  at_list k lt = omega (arith, p.short)
+  Yes line = Accepted f next accepts s part line
 
   in_order : Ascending part
-  in_order i j lt within =
-      subst (λ x. Before x (get_or part j [])) (sym (p.same i (omega arith)))
-      (subst (λ x. Before (get_or ls i []) x) (sym (p.same j within)) (all_lines.once i j lt (at_list j within)))
+  in_order i j lt within = subst (λ x. Before x (get_or part j [])) (sym (p.same i (omega arith))) (subst (Before (get_or ls i [])) (sym (p.same j within)) (all_lines.once i j lt (omega (arith, p.short))))
 
   followed : (k : ℕ) → k < length part → Line (get_or part k [])
-  followed k lt = all_lines.only (get_or part k []) (k, at_list k lt, sym (p.same k lt))
+  followed k lt = all_lines.only (get_or part k []) (k, omega (arith, p.short), sym (p.same k lt))
 
   -- a line that got a no was not accepted anywhere
   never : (k : ℕ) → k < length part → said next accepts f s part k ≡ false → Yes (get_or part k []) → ⊥
@@ -101,10 +72,10 @@ module _ {S N : Type 0} (Line : List ℕ → Type 0) (f : List ℕ → List N) (
 
   only_earned : (line : List ℕ) → In part line → Line line × ((m : List ℕ) → Line m → Before m line → Yes m)
   only_earned line (k, lt, is) = (
-    subst (Line) is (followed k lt),
+    subst Line is (followed k lt),
     λ m fm b.
         let r = all_lines.each m fm in
-        let sooner = stands_before ls all_lines.once r.0 k r.1 (at_list k lt) (subst (λ x. Before x (get_or ls k [])) (sym r.2) (subst (Before m) (sym is ∙ p.same k lt) b)) in
+        let sooner = stands_before ls all_lines.once r.0 k r.1 (omega (arith, p.short)) (subst (λ x. Before x (get_or ls k [])) (sym r.2) (subst (Before m) (sym is ∙ p.same k lt) b)) in
         accepted_at r.0 m (omega arith) (p.same r.0 (omega arith) ∙ r.2) (p.went r.0 (omega arith)),
   )
 
@@ -122,9 +93,6 @@ module _ {S N : Type 0} (Line : List ℕ → Type 0) (f : List ℕ → List N) (
       let r = all_lines.each line fl in
       ⊎_elim (λ lt. (r.0, lt, p.same r.0 lt ∙ r.2)) (λ past. absurd (past_end end.1 refl r.0 past r.1 line r.2 earned)) (cases_lt r.0 (length part))
 
-  all_yes : end.1 ≡ None → (line : List ℕ) → In part line → Yes line
-  all_yes e line (k, lt, is) = accepted_at k line lt is ((p.whole e).1 k lt)
-
   all_shown : end.1 ≡ None → (line : List ℕ) → Line line → In part line
   all_shown e line fl = let r = all_lines.each line fl in let w = (p.whole e).0 in (r.0, omega arith, p.same r.0 (omega arith) ∙ r.2)
 
@@ -134,46 +102,22 @@ module _ {S N : Type 0} (Line : List ℕ → Type 0) (f : List ℕ → List N) (
       let within : r.0 < length part = omega (arith, r.1) in
       (get_or part r.0 [], (r.0, within, refl), never r.0 within r.2, r.3)
 
-  law : (outcome : Outcome) (left : List N) → (outcome ≡ Finished → (end.1 ≡ None) × (left ≡ initial)) → (outcome ≡ Stopped → end.1 ≡ Some left)
-      → WalkLawOf Line f next accepts initial s outcome left end.0 part
-  law outcome left finished stopped = record {
+  law : (outcome : Outcome) (initial left : List N) → end.1 ≡ refused_path outcome left → (outcome ≡ Finished → left ≡ initial) → WalkLawOf Line f next accepts initial s outcome left end.0 part
+  law outcome initial left ends back = record {
     only = only_earned;
     all = all_earned;
     order = in_order;
     holds = p.holds;
-    finished = λ e. (all_yes (finished e).0, (finished e).1);
-    whole = λ e. all_shown (finished e).0;
-    stopped = λ e. one_no left (stopped e);
+    finished = λ is. (λ line (k, lt, at). accepted_at k line lt at ((p.whole (ends ∙ ap (λ x. refused_path x left) is)).1 k lt), back is);
+    whole = λ is. all_shown (ends ∙ ap (λ x. refused_path x left) is);
+    stopped = λ is. one_no left (ends ∙ ap (λ x. refused_path x left) is);
   }
 
 -- the walk law of a walk that ended as a run over the paths of all lines did
-module _ {S N : Type 0} (Line : List ℕ → Type 0) (f : List ℕ → List N) (next : S → List N → S) (accepts : S → List N → Bool) (initial left : List N) (s s' : S)
-    (ls : List (List ℕ)) (all_lines : AllOf Line ls) where
-  pub walk_law_of : (outcome : Outcome) → run next accepts s (map f ls) ≡ (s', refused_path outcome left) → (outcome ≡ Finished → left ≡ initial)
-      → (part : List (List ℕ)) × WalkLawOf Line f next accepts initial s outcome left s' part
-  walk_law_of outcome e back =
-      let part = shown next accepts f s ls in (
-        part,
-        law Line f next accepts initial s ls all_lines part (s', refused_path outcome left) (subst (Part next accepts f s ls part) e (part_of next accepts f s ls))
-            outcome left (λ e'. (ap (λ x. refused_path x left) e', back e')) (λ e'. ap (λ x. refused_path x left) e'),
-      )
-
--- the same over the lines of descent from one name
-module _ {S N : Type 0} (children : N → List N) (next : S → List N → S) (accepts : S → List N → Bool) (start : N) (initial left : List N) (s s' : S)
-    (ls : List (List ℕ)) (all_lines : AllLines children start ls) where
-  over_one : (outcome : Outcome) (part : List (List ℕ)) → WalkLawOf (Follow children start) (path_of children initial start) next accepts initial s outcome left s' part → WalkLaw children next accepts start initial s outcome left s' part
-  over_one outcome part w = record {
-    only = w.only;
-    all = w.all;
-    order = w.order;
-    holds = w.holds;
-    finished = w.finished;
-    whole = w.whole;
-    stopped = w.stopped;
-  }
-
-  pub walk_law : (outcome : Outcome) → run next accepts s (map (path_of children initial start) ls) ≡ (s', refused_path outcome left) → (outcome ≡ Finished → left ≡ initial)
-      → (part : List (List ℕ)) × WalkLaw children next accepts start initial s outcome left s' part
-  walk_law outcome e back =
-      let w = walk_law_of (Follow children start) (path_of children initial start) next accepts initial left s s' ls (record { only = all_lines.only; each = all_lines.each; once = all_lines.once }) outcome e back in
-      (w.0, over_one outcome w.0 w.1)
+pub walk_law : {S N : Type 0} (Line : List ℕ → Type 0) (f : List ℕ → List N) (next : S → List N → S) (accepts : S → List N → Bool) (initial left : List N) (s s' : S)
+    (ls : List (List ℕ)) → AllOf Line ls → (outcome : Outcome) → run next accepts s (map f ls) ≡ (s', refused_path outcome left) → (outcome ≡ Finished → left ≡ initial)
+    → (part : List (List ℕ)) × WalkLawOf Line f next accepts initial s outcome left s' part
+walk_law Line f next accepts initial left s s' ls all_lines outcome e back =
+    let part = shown next accepts f s ls in
+    let p = subst (Part next accepts f s ls part) e (part_of next accepts f s ls) in
+    (part, law Line f next accepts s ls all_lines part _ p outcome initial left refl back)

@@ -1,6 +1,5 @@
 pub mod Admitted
 pub mod Asked
-pub mod Forest
 pub mod Law
 pub mod Lengths
 pub mod Listed

@@ -1,14 +1,16 @@
--- All lines of descent from a name, listed in document order, and the paths that show them. Assumes nothing.
-use Rattle.std.proofs.Common.{◌≡◌, ℕ, zero, suc, ◌<◌, ◌≤◌, Bool, true, ◌⊎◌, List, [], ◌∷◌, ◌++◌, map, length, get_or, drop, sym, refl, ap, ◌∙◌, subst, ap₂, inl, inr, append_assoc, arith}
+-- All lines from several names in turn or from one, listed in document order, and the paths that show them. Assumes nothing.
+use Rattle.std.proofs.Common.{◌≡◌, ℕ, zero, suc, ◌+◌, ◌≤◌, Bool, true, ◌⊎◌, List, [], ◌∷◌, ◌++◌, map, Some, None, Option, sym, refl, ap, ◌∙◌, subst, ap₂, inl, inr, append_assoc, arith, IsSomeAnd, slice_get}
 use mathlib.Core.List.Memᴰ
 use mathlib.Core.List.{Memᴰ}
 use Rattle.std.proofs.lemmas.List.{map-append}
-use Rattle.std.proofs.lemmas.Bool.{cases_order}
+use Rattle.std.proofs.lemmas.Option.{get_or_from_slice_get, same_Some, slice_get-get_or, slice_get_within}
+use Rattle.std.proofs.lemmas.Simd.{map-map}
 use Rattle.std.specs.List.{flat_map}
-use Rattle.tree.specs.Lines.{TreeLaw, child_of, Follow, along, Before, AllLines}
+use Rattle.tree.specs.Forests.{FollowEach, along_each}
+use Rattle.tree.specs.Lines.{TreeLaw, Follow, along, Before, AllLines, AllOf}
 use Rattle.tree.specs.Runs.{paths}
 use Rattle.tree.specs.Walks.{path_of}
-use Rattle.tree.proofs.Order.{Sorted, in_from_mem, mem_from_in, ascending_from_sorted, sorted_append}
+use Rattle.tree.proofs.Order.{Listing, Sorted, all_of, sorted_append}
 
 -- the lines through children that are numbered from i, f giving the lines of one
 abbrev pub branches : {N : Type 0} → (N → List (List ℕ)) → ℕ → List N → List (List ℕ)
@@ -20,120 +22,122 @@ abbrev pub lines : {N : Type 0} → (N → List N) → ℕ → N → List (List 
 lines children zero n = []
 lines children (suc h) n = [] ∷ branches (lines children h) 0 (children n)
 
--- the first of what is left of a list
-dropped : {X : Type 0} (xs : List X) (i : ℕ) (c : X) (cs : List X) (d : X) → drop i xs ≡ c ∷ cs → (get_or xs i d ≡ c) × (drop (suc i) xs ≡ cs) × (i < length xs)
-dropped [] zero c cs d e = let z : ◌≡◌ {A = ℕ} 0 1 = cc in absurd (omega arith)
-dropped [] (suc i) c cs d e = let z : ◌≡◌ {A = ℕ} 0 1 = cc in absurd (omega arith)
-dropped (x ∷ xs) zero c cs d e = (cc, cc, omega arith)
-dropped (x ∷ xs) (suc i) c cs d e = let r = dropped xs i c cs d e in (r.0, r.1, omega (arith, r.2))
+some_and : {X : Type 0} (o : Option X) (P : X → Type 0) → IsSomeAnd o P → (x : X) × (o ≡ Some x) × P x
+some_and None P h = absurd h
+some_and (Some x) P h = (x, refl, h)
 
-not_within : {X : Type 0} (xs : List X) (i : ℕ) → drop i xs ≡ [] → length xs ≤ i
-not_within [] i e = omega arith
-not_within (x ∷ xs) zero e = let z : ◌≡◌ {A = ℕ} 0 1 = cc in absurd (omega arith)
-not_within (x ∷ xs) (suc i) e = omega (arith, not_within xs i e)
-
-mem_map : {a : List ℕ} {ls : List (List ℕ)} (i : ℕ) → Memᴰ a ls → Memᴰ (i ∷ a) (map (λ l. i ∷ l) ls)
-mem_map i (Memᴰ.head e) = Memᴰ.head (ap (λ l. i ∷ l) e)
-mem_map i (Memᴰ.tail m) = Memᴰ.tail (mem_map i m)
-
-mem_unmap : {a : List ℕ} (ls : List (List ℕ)) (i : ℕ) → Memᴰ a (map (λ l. i ∷ l) ls) → (l : List ℕ) × (a ≡ i ∷ l) × Memᴰ l ls
-mem_unmap [] i m = elim m [ ]
-mem_unmap {a} (l ∷ ls) i m = go (mem_unmap ls i) (Memᴰ.cases_cons m)
-  where
-    go : (Memᴰ a (map (λ l'. i ∷ l') ls) → (l' : List ℕ) × (a ≡ i ∷ l') × Memᴰ l' ls) → (a ≡ i ∷ l) ⊎ Memᴰ a (map (λ l'. i ∷ l') ls)
-        → (l' : List ℕ) × (a ≡ i ∷ l') × Memᴰ l' (l ∷ ls)
-    go rest (inl e) = (l, e, Memᴰ.head refl)
-    go rest (inr m') = let r = rest m' in (r.0, r.1, Memᴰ.tail r.2)
-
-module _ {N : Type 0} (f : N → List (List ℕ)) (xs : List N) (d : N) where
+module _ {N : Type 0} (f : N → List (List ℕ)) where
   -- a line through a child begins with the child's number
-  pub through : (i : ℕ) (cs : List N) → drop i xs ≡ cs → (line : List ℕ) → Memᴰ line (branches f i cs)
-      → (j : ℕ) × (l : List ℕ) × (line ≡ j ∷ l) × (i ≤ j) × (j < length xs) × Memᴰ l (f (get_or xs j d))
-  through i [] e line m = elim m [ ]
-  through i (c ∷ cs) e line m = go (dropped xs i c cs d e) (through (suc i) cs) (Memᴰ.append_cases (map (λ l. i ∷ l) (f c)) m)
+  through : (i : ℕ) (cs : List N) (line : List ℕ) → Memᴰ line (branches f i cs) → (r : ℕ) × (c : N) × (l : List ℕ) × (line ≡ (i + r) ∷ l) × (slice_get cs r ≡ Some c) × Memᴰ l (f c)
+  through i [] line m = absurd (Memᴰ.not-nil m)
+  through i (c ∷ cs) line m = go (Memᴰ.append_cases (map (λ l. i ∷ l) (f c)) m) (through (suc i) cs line)
     where
-      go : (get_or xs i d ≡ c) × (drop (suc i) xs ≡ cs) × (i < length xs)
-          → (drop (suc i) xs ≡ cs → (line' : List ℕ) → Memᴰ line' (branches f (suc i) cs) → (j : ℕ) × (l : List ℕ) × (line' ≡ j ∷ l) × (suc i ≤ j) × (j < length xs) × Memᴰ l (f (get_or xs j d)))
-          → Memᴰ line (map (λ l. i ∷ l) (f c)) ⊎ Memᴰ line (branches f (suc i) cs)
-          → (j : ℕ) × (l : List ℕ) × (line ≡ j ∷ l) × (i ≤ j) × (j < length xs) × Memᴰ l (f (get_or xs j d))
-      go (is, rest, within) later (inl here) = let r = mem_unmap (f c) i here in (i, r.0, r.1, omega arith, within, subst (λ x. Memᴰ r.0 (f x)) (sym is) r.2)
-      go (is, rest, within) later (inr there) = let r = later rest line there in (r.0, r.1, r.2, omega (arith, r.3), r.4, r.5)
+      go : Memᴰ line (map (λ l. i ∷ l) (f c)) ⊎ Memᴰ line (branches f (suc i) cs)
+          → (Memᴰ line (branches f (suc i) cs) → (r : ℕ) × (d : N) × (l : List ℕ) × (line ≡ (suc i + r) ∷ l) × (slice_get cs r ≡ Some d) × Memᴰ l (f d))
+          → (r : ℕ) × (d : N) × (l : List ℕ) × (line ≡ (i + r) ∷ l) × (slice_get (c ∷ cs) r ≡ Some d) × Memᴰ l (f d)
+      go (inl here) later = let t = Memᴰ.of_map (λ l. i ∷ l) (f c) here in let e : i ≡ i + 0 = omega arith in (0, c, t.0, sym t.2 ∙ ap (λ k. k ∷ t.0) e, refl, t.1)
+      go (inr there) later = let t = later there in let e : suc i + t.0 ≡ i + suc t.0 = omega arith in (suc t.0, t.1, t.2, t.3 ∙ ap (λ k. k ∷ t.2) e, t.4, t.5)
 
   -- and each line of a child is among them, behind its number
-  pub among : (i : ℕ) (cs : List N) → drop i xs ≡ cs → (j : ℕ) (l : List ℕ) → i ≤ j → j < length xs → Memᴰ l (f (get_or xs j d)) → Memᴰ (j ∷ l) (branches f i cs)
-  among i [] e j l low within m = absurd (omega (arith, not_within xs i e))
-  among i (c ∷ cs) e j l low within m = go (dropped xs i c cs d e) (λ e' low'. among (suc i) cs e' j l low' within m) (cases_order i j)
-    where
-      go : (get_or xs i d ≡ c) × (drop (suc i) xs ≡ cs) × (i < length xs) → (drop (suc i) xs ≡ cs → suc i ≤ j → Memᴰ (j ∷ l) (branches f (suc i) cs))
-          → (i ≡ j) ⊎ ((i < j) ⊎ (j < i)) → Memᴰ (j ∷ l) (map (λ l'. i ∷ l') (f c) ++ branches f (suc i) cs)
-      go (is, rest, _) later (inl e') = Memᴰ.append_left _ (subst (λ x. Memᴰ (x ∷ l) (map (λ l'. i ∷ l') (f c))) e' (mem_map i (subst (λ x. Memᴰ l (f x)) (ap (λ x. get_or xs x d) (sym e') ∙ is) m)))
-      go (is, rest, _) later (inr (inl lt)) = Memᴰ.append_right (map (λ l'. i ∷ l') (f c)) (later rest lt)
-      go (is, rest, _) later (inr (inr gt)) = absurd (omega arith)
+  among : (i : ℕ) (cs : List N) (r k : ℕ) (c : N) (l : List ℕ) → slice_get cs r ≡ Some c → k ≡ i + r → Memᴰ l (f c) → Memᴰ (k ∷ l) (branches f i cs)
+  among i [] r k c l is at m = cc
+  among i (d ∷ cs) zero k c l is at m =
+      let e : k ≡ i = omega arith in
+      Memᴰ.append_left (branches f (suc i) cs) (Memᴰ.cast (ap (λ x. x ∷ l) e) (Memᴰ.map (λ l'. i ∷ l') (subst (λ x. Memᴰ l (f x)) (sym (same_Some d c is)) m)))
+  among i (d ∷ cs) (suc r) k c l is at m = Memᴰ.append_right (map (λ l'. i ∷ l') (f d)) (among (suc i) cs r k c l is (omega arith) m)
 
   sorted_map : (i : ℕ) (ls : List (List ℕ)) → Sorted ls → Sorted (map (λ l. i ∷ l) ls)
   sorted_map i [] s = tt
   sorted_map i (l ∷ ls) s = (
-    λ m mem. let r = mem_unmap ls i mem in subst (λ x. Before (i ∷ l) x) (sym r.1) (inr (refl, s.0 r.0 r.2)),
+    λ m mem. let t = Memᴰ.of_map (λ l'. i ∷ l') ls mem in subst (Before (i ∷ l)) t.2 (inr (refl, s.0 t.0 t.1)),
     sorted_map i ls s.1,
   )
 
-  pub sorted_branches : ((c : N) → Sorted (f c)) → (i : ℕ) (cs : List N) → drop i xs ≡ cs → Sorted (branches f i cs)
-  sorted_branches each i [] e = tt
-  sorted_branches each i (c ∷ cs) e =
-      let rest = (dropped xs i c cs d e).1 in
-      sorted_append (map (λ l. i ∷ l) (f c)) (branches f (suc i) cs) (sorted_map i (f c) (each c)) (sorted_branches each (suc i) cs rest)
+  sorted_branches : (i : ℕ) (cs : List N) → ((r : ℕ) (c : N) → slice_get cs r ≡ Some c → Sorted (f c)) → Sorted (branches f i cs)
+  sorted_branches i [] each = tt
+  sorted_branches i (c ∷ cs) each =
+      sorted_append (map (λ l. i ∷ l) (f c)) (branches f (suc i) cs) (sorted_map i (f c) (each 0 c refl)) (sorted_branches (suc i) cs (λ r. each (suc r)))
       (λ l m ml mm.
-      let a = mem_unmap (f c) i ml in
-      let b = through (suc i) cs rest m mm in
-      subst (λ x. Before x m) (sym a.1) (subst (λ x. Before (i ∷ a.0) x) (sym b.2) (inl b.3)))
+      let a = Memᴰ.of_map (λ l'. i ∷ l') (f c) ml in
+      let b = through (suc i) cs m mm in
+      subst (λ x. Before x m) a.2 (subst (Before (i ∷ a.0)) (sym b.3) (inl (omega arith))))
 
 module _ {N : Type 0} (children : N → List N) where
-  pub sorted_lines : (h : ℕ) (n : N) → Sorted (lines children h n)
-  sorted_lines zero n = tt
-  sorted_lines (suc h) n = (
-    λ m mem. let r = through (lines children h) (children n) n 0 (children n) refl m mem in subst (Before []) (sym r.2) tt,
-    sorted_branches (lines children h) (children n) n (sorted_lines h) 0 (children n) refl,
-  )
-
-  -- each of them can be followed,
-  pub lines_follow : (h : ℕ) (n : N) (line : List ℕ) → Memᴰ line (lines children h n) → Follow children n line
-  lines_follow zero n line m = elim m [ ]
-  lines_follow (suc h) n line m = go (lines_follow h) (Memᴰ.cases_cons m)
+  -- where f gives all lines of descent from each of several names, these are all lines from the names
+  branches_listed : (f : N → List (List ℕ)) (roots : List N) → ((r : ℕ) (c : N) → slice_get roots r ≡ Some c → Listing (Follow children c) (f c)) → Listing (FollowEach children roots) (branches f 0 roots)
+  branches_listed f roots all = record {
+    only = λ line m.
+        let t = through f 0 roots line m in
+        let e : 0 + t.0 ≡ t.0 = omega arith in
+        subst (FollowEach children roots) (sym (t.3 ∙ ap (λ k. k ∷ t.2) e)) (subst (λ o. IsSomeAnd o (λ n. Follow children n t.2)) (sym t.4) ((all t.0 t.1 t.4).only t.2 t.5));
+    each = there;
+    sorted = sorted_branches f 0 roots (λ r c is. (all r c is).sorted);
+  }
     where
-      go : ((c : N) (l : List ℕ) → Memᴰ l (lines children h c) → Follow children c l) → (line ≡ []) ⊎ Memᴰ line (branches (lines children h) 0 (children n)) → Follow children n line
-      go below (inl e) = subst (Follow children n) (sym e) tt
-      go below (inr m') = let r = through (lines children h) (children n) n 0 (children n) refl line m' in subst (Follow children n) (sym r.2) (r.4, below (child_of children n r.0) r.1 r.5)
+      there : (line : List ℕ) → FollowEach children roots line → Memᴰ line (branches f 0 roots)
+      there [] g = absurd g
+      there (r ∷ line) g = let s = some_and (slice_get roots r) (λ n. Follow children n line) g in among f 0 roots r r s.0 line s.1 (omega arith) ((all r s.0 s.1).each line s.2)
 
-  -- and under the law of a tree all that can be followed are there
+  -- a line that goes on from a name goes on from one of its children
+  module _ (n : N) where
+    from_child : (line : List ℕ) → FollowEach children (children n) line → Follow children n line
+    from_child [] g = absurd g
+    from_child (i ∷ line) g =
+        let s = some_and (slice_get (children n) i) (λ c. Follow children c line) g in
+        (slice_get_within (children n) i s.0 s.1, subst (λ c. Follow children c line) (sym (get_or_from_slice_get (children n) i s.0 n s.1)) s.2)
+
+    to_child : (i : ℕ) (line : List ℕ) → Follow children n (i ∷ line) → FollowEach children (children n) (i ∷ line)
+    to_child i line g = subst (λ o. IsSomeAnd o (λ c. Follow children c line)) (sym (slice_get-get_or (children n) i n g.0)) g.1
+
   module _ {known : N → Bool} {heights : N → ℕ} (law : TreeLaw known heights children) where
-    pub lines_all : (h : ℕ) (n : N) → known n ≡ true → heights n ≤ h → (line : List ℕ) → Follow children n line → Memᴰ line (lines children h n)
-    lines_all zero n k le line f = absurd (omega (arith, law.low n k))
-    lines_all (suc h) n k le [] f = Memᴰ.head refl
-    lines_all (suc h) n k le (i ∷ line) f =
-        Memᴰ.tail (among (lines children h) (children n) n 0 (children n) refl i line (omega arith) f.0
-        (lines_all h (child_of children n i) (law.kept n i k f.0) (omega (arith, law.falls n i k f.0)) line f.1))
+    lines_listed : (h : ℕ) (n : N) → known n ≡ true → heights n ≤ h → Listing (Follow children n) (lines children h n)
+    lines_listed zero n k le = absurd (omega (arith, law.low n k))
+    lines_listed (suc h) n k le = go (branches_listed (lines children h) (children n) (λ r c is.
+        let within = slice_get_within (children n) r c is in
+        let e = get_or_from_slice_get (children n) r c n is in
+        lines_listed h c (subst (λ x. known x ≡ true) e (law.kept n r k within)) (subst (λ x. heights x ≤ h) e (omega (arith, law.falls n r k within)))))
+      where
+        go : Listing (FollowEach children (children n)) (branches (lines children h) 0 (children n)) → Listing (Follow children n) (lines children (suc h) n)
+        go b = record { only = only; each = each; sorted = (λ m mem. first m (b.only m mem), b.sorted) }
+          where
+            only : (line : List ℕ) → Memᴰ line (lines children (suc h) n) → Follow children n line
+            only line (Memᴰ.head e) = subst (Follow children n) (sym e) tt
+            only line (Memᴰ.tail m) = from_child n line (b.only line m)
+
+            each : (line : List ℕ) → Follow children n line → Memᴰ line (lines children (suc h) n)
+            each [] g = Memᴰ.head refl
+            each (i ∷ line) g = Memᴰ.tail (b.each (i ∷ line) (to_child n i line g))
+
+            first : (line : List ℕ) → FollowEach children (children n) line → Before [] line
+            first [] g = g
+            first (i ∷ line) g = tt
 
     pub listed : (h : ℕ) (n : N) → known n ≡ true → heights n ≤ h → AllLines children n (lines children h n)
-    listed h n k le = record {
-      only = λ line i. lines_follow h n line (mem_from_in (lines children h n) line i);
-      each = λ line f. in_from_mem (lines_all h n k le line f);
-      once = ascending_from_sorted (lines children h n) (sorted_lines h n);
-    }
+    listed h n k le = all_of (Follow children n) (lines children h n) (lines_listed h n k le)
+
+    pub each_listed : (roots : List N) → ((r : ℕ) (c : N) → slice_get roots r ≡ Some c → known c ≡ true) → AllOf (FollowEach children roots) (branches (lines children 64) 0 roots)
+    each_listed roots all_known = all_of (FollowEach children roots) (branches (lines children 64) 0 roots) (branches_listed (lines children 64) roots (λ r c is. let k = all_known r c is in lines_listed 64 c k (law.high c k)))
 
   -- the paths that the recursion shows are the paths of these lines
-  paths_branches : (h i : ℕ) (n : N) (p : List N) (cs : List N) → drop i (children n) ≡ cs
-      → ((c : N) → paths children h (p ++ n ∷ []) c ≡ map (path_of children (p ++ n ∷ []) c) (lines children h c))
-      → flat_map (paths children h (p ++ n ∷ [])) cs ≡ map (path_of children p n) (branches (lines children h) i cs)
-  paths_branches h i n p [] e each = refl
-  paths_branches h i n p (c ∷ cs) e each =
-      let r = dropped (children n) i c cs n e in
-      ap₂ ◌++◌ (each c ∙ step r.0 (lines children h c)) (paths_branches h (suc i) n p cs r.1 each)
-      ∙ sym (map-append (path_of children p n) (map (λ l. i ∷ l) (lines children h c)) (branches (lines children h) (suc i) cs))
-    where
-      step : child_of children n i ≡ c → (ls : List (List ℕ)) → map (path_of children (p ++ n ∷ []) c) ls ≡ map (path_of children p n) (map (λ l. i ∷ l) ls)
-      step is [] = refl
-      step is (l ∷ ls) = ap₂ ◌∷◌ (append_assoc p (n ∷ []) (along children c l) ∙ ap (λ x. p ++ n ∷ along children x l) (sym is)) (step is ls)
+  branch_paths : (g : N → List (List N)) (f : N → List (List ℕ)) (path : N → List ℕ → List N) (whole : List ℕ → List N) → ((c : N) → g c ≡ map (path c) (f c))
+      → (i : ℕ) (cs : List N) → ((r k : ℕ) (c : N) (l : List ℕ) → slice_get cs r ≡ Some c → k ≡ i + r → path c l ≡ whole (k ∷ l)) → flat_map g cs ≡ map whole (branches f i cs)
+  branch_paths g f path whole each i [] at = refl
+  branch_paths g f path whole each i (c ∷ cs) at =
+      ap₂ ◌++◌ (each c ∙ ap (λ p. map p (f c)) (λ j l. at 0 i c l refl (omega arith) j) ∙ sym (map-map whole (λ l. i ∷ l) (f c))) (branch_paths g f path whole each (suc i) cs (λ r k d l is e. at (suc r) k d l is (omega arith)))
+      ∙ sym (map-append whole (map (λ l. i ∷ l) (f c)) (branches f (suc i) cs))
 
   pub paths_are : (h : ℕ) (n : N) (p : List N) → paths children h p n ≡ map (path_of children p n) (lines children h n)
   paths_are zero n p = refl
-  paths_are (suc h) n p = ap (λ x. (p ++ n ∷ []) ∷ x) (paths_branches h 0 n p (children n) refl (λ c. paths_are h c (p ++ n ∷ [])))
+  paths_are (suc h) n p =
+      ap (λ x. (p ++ n ∷ []) ∷ x) (branch_paths (paths children h (p ++ n ∷ [])) (lines children h) (path_of children (p ++ n ∷ [])) (path_of children p n) (λ c. paths_are h c (p ++ n ∷ [])) 0 (children n)
+      (λ r k c l is e.
+      let e' : k ≡ r = omega arith in
+      append_assoc p (n ∷ []) (along children c l) ∙ ap (λ x. p ++ n ∷ along children x l) (sym (get_or_from_slice_get (children n) k c n (ap (slice_get (children n)) e' ∙ is)))))
+
+  pub each_paths : (h : ℕ) (roots : List N) → flat_map (paths children h []) roots ≡ map (along_each children roots) (branches (lines children h) 0 roots)
+  each_paths h roots =
+      branch_paths (paths children h []) (lines children h) (path_of children []) (along_each children roots) (λ c. paths_are h c []) 0 roots
+      (λ r k c l is e.
+      let e' : k ≡ r = omega arith in
+      let is' = ap (slice_get roots) e' ∙ is in
+      rw is')

@@ -44,11 +44,15 @@ In lines line = (k : ℕ) × (k < length lines) × (slice_index_or lines k [] �
 abbrev pub Ascending : List (List ℕ) → Type 0
 Ascending lines = (i j : ℕ) → i < j → j < length lines → Before (slice_index_or lines i []) (slice_index_or lines j [])
 
--- all lines of descent from a name, each once
-pub record AllLines {N : Type 0} (children : N → List N) (n : N) (lines : List (List ℕ)) : Type 0 where
-  pub only : (line : List ℕ) → In lines line → Follow children n line
-  pub each : (line : List ℕ) → Follow children n line → In lines line
+-- all lines that there are, each once
+pub record AllOf (Line : List ℕ → Type 0) (lines : List (List ℕ)) : Type 0 where
+  pub only : (line : List ℕ) → In lines line → Line line
+  pub each : (line : List ℕ) → Line line → In lines line
   pub once : Ascending lines
+
+-- all lines of descent from a name
+abbrev pub AllLines : {N : Type 0} → (N → List N) → N → List (List ℕ) → Type 0
+AllLines children n lines = AllOf (Follow children n) lines
 
 -- a number is the number of lines of descent from a name
 abbrev pub Numbers : {N : Type 0} → (N → List N) → N → ℕ → Type 0

@@ -21,27 +21,32 @@ path_of children initial start line = initial ++ along children start line
 
 -- A line was shown and got a yes: it stands on the list of lines shown, and the visitor accepted its path
 -- while it held what the lines shown before had made of it.
-abbrev pub Accepted : {S N : Type 0} → (N → List N) → (S → List N → S) → (S → List N → Bool) → N → List N → S → List (List ℕ) → List ℕ → Type 0
-Accepted children next accepts start initial s shown line =
+abbrev pub Accepted : {S N : Type 0} → (List ℕ → List N) → (S → List N → S) → (S → List N → Bool) → S → List (List ℕ) → List ℕ → Type 0
+Accepted path next accepts s shown line =
     (k : ℕ) × (k < length shown) × (slice_index_or shown k [] ≡ line)
-    × (accepts (after next s (map (path_of children initial start) (take k shown))) (path_of children initial start line) ≡ true)
+    × (accepts (after next s (map path (take k shown))) (path line) ≡ true)
 
--- The walk law, over the list of lines shown.
-pub record WalkLaw {S N : Type 0} (children : N → List N) (next : S → List N → S) (accepts : S → List N → Bool) (start : N) (initial : List N) (before : S)
+-- The walk law, over the list of lines shown: given which lines there are, the path that shows each, the visitor's rule,
+-- the path and what the visitor holds before the walk, how it ended, and the path and what the visitor holds then.
+pub record WalkLawOf {S N : Type 0} (Line : List ℕ → Type 0) (path : List ℕ → List N) (next : S → List N → S) (accepts : S → List N → Bool) (initial : List N) (before : S)
     (outcome : Outcome) (left : List N) (held : S) (shown : List (List ℕ)) : Type 0 where
-  -- a line of descent is shown only if every line before it in document order was shown and accepted,
-  pub only : (line : List ℕ) → In shown line → Follow children start line × ((m : List ℕ) → Follow children start m → Before m line → Accepted children next accepts start initial before shown m)
+  -- a line is shown only if every line before it in document order was shown and accepted,
+  pub only : (line : List ℕ) → In shown line → Line line × ((m : List ℕ) → Line m → Before m line → Accepted path next accepts before shown m)
   -- and is shown if that is so,
-  pub all : (line : List ℕ) → Follow children start line → ((m : List ℕ) → Follow children start m → Before m line → Accepted children next accepts start initial before shown m) → In shown line
+  pub all : (line : List ℕ) → Line line → ((m : List ℕ) → Line m → Before m line → Accepted path next accepts before shown m) → In shown line
   -- then once, and in document order.
   pub order : Ascending shown
   -- The visitor ends holding what its rule makes, from what it first held, of the lines shown in turn.
-  pub holds : held ≡ after next before (map (path_of children initial start) shown)
+  pub holds : held ≡ after next before (map path shown)
   -- A finished walk got no no, leaves the initial path, and has shown every line.
-  pub finished : outcome ≡ Finished → ((line : List ℕ) → In shown line → Accepted children next accepts start initial before shown line) × (left ≡ initial)
-  pub whole : outcome ≡ Finished → (line : List ℕ) → Follow children start line → In shown line
+  pub finished : outcome ≡ Finished → ((line : List ℕ) → In shown line → Accepted path next accepts before shown line) × (left ≡ initial)
+  pub whole : outcome ≡ Finished → (line : List ℕ) → Line line → In shown line
   -- A stopped walk got a no, and leaves the path of the line that got it.
-  pub stopped : outcome ≡ Stopped → (line : List ℕ) × In shown line × (Accepted children next accepts start initial before shown line → ⊥) × (left ≡ path_of children initial start line)
+  pub stopped : outcome ≡ Stopped → (line : List ℕ) × In shown line × (Accepted path next accepts before shown line → ⊥) × (left ≡ path line)
+
+-- over the lines of descent from a start, each shown by the initial path followed by the names along it
+abbrev pub WalkLaw : {S N : Type 0} → (N → List N) → (S → List N → S) → (S → List N → Bool) → N → List N → S → Outcome → List N → S → List (List ℕ) → Type 0
+WalkLaw children next accepts start initial before outcome left held shown = WalkLawOf (Follow children start) (path_of children initial start) next accepts initial before outcome left held shown
 
 -- the fault at the first of some names that the tree does not know, or none
 abbrev pub first_missing : {N F : Type 0} → (N → Bool) → (N → F) → List N → Option F
