@@ -1,5 +1,5 @@
 -- All lines from several names in turn or from one, listed in document order, and the paths that show them. Assumes nothing.
-use Rattle.std.proofs.Common.{◌≡◌, ℕ, zero, suc, ◌+◌, ◌≤◌, Bool, true, ◌⊎◌, List, [], ◌∷◌, ◌++◌, map, Some, None, Option, sym, refl, ap, ◌∙◌, subst, ap₂, inl, inr, append_assoc, arith, IsSomeAnd, slice_get}
+use Rattle.std.proofs.Common.{◌≡◌, ℕ, zero, suc, ◌+◌, ◌≤◌, Bool, true, ◌⊎◌, All, List, [], ◌∷◌, ◌++◌, map, Some, None, Option, sym, refl, ap, ◌∙◌, subst, ap₂, inl, inr, append_assoc, arith, IsSomeAnd, slice_get}
 use mathlib.Core.List.Memᴰ
 use mathlib.Core.List.{Memᴰ}
 use Rattle.std.proofs.lemmas.List.{map-append}
@@ -115,8 +115,10 @@ module _ {N : Type 0} (children : N → List N) where
     pub listed : (h : ℕ) (n : N) → known n ≡ true → heights n ≤ h → AllLines children n (lines children h n)
     listed h n k le = all_of (Follow children n) (lines children h n) (lines_listed h n k le)
 
-    pub each_listed : (roots : List N) → ((r : ℕ) (c : N) → slice_get roots r ≡ Some c → known c ≡ true) → AllOf (FollowEach children roots) (branches (lines children 64) 0 roots)
-    each_listed roots all_known = all_of (FollowEach children roots) (branches (lines children 64) 0 roots) (branches_listed (lines children 64) roots (λ r c is. let k = all_known r c is in lines_listed 64 c k (law.high c k)))
+    pub each_listed : (roots : List N) → All (λ n. known n ≡ true) roots → AllOf (FollowEach children roots) (branches (lines children 64) 0 roots)
+    each_listed roots k = all_of (FollowEach children roots) (branches (lines children 64) 0 roots) (branches_listed (lines children 64) roots (λ r c is.
+        let k' = subst (λ n. known n ≡ true) (get_or_from_slice_get roots r c c is) (k r c (slice_get_within roots r c is)) in
+        lines_listed 64 c k' (law.high c k')))
 
   -- the paths that the recursion shows are the paths of these lines
   branch_paths : (g : N → List (List N)) (f : N → List (List ℕ)) (path : N → List ℕ → List N) (whole : List ℕ → List N) → ((c : N) → g c ≡ map (path c) (f c))

@@ -1,6 +1,6 @@
 -- The walk law: which lines of descent a walk shows, in which order, and what it leaves. Stated over lines of
 -- descent and document order alone; how the code goes about it appears nowhere here. Assumes nothing.
-use Rattle.std.specs.Prelude.{◌≡◌, ℕ, ◌+◌, ◌<◌, Bool, true, cond, List, [], ◌∷◌, ◌++◌, map, length, take, Some, None, Ok, Err, Option, Result, nat_le, slice_index_or}
+use Rattle.std.specs.Prelude.{◌≡◌, ℕ, ◌+◌, ◌<◌, Bool, true, cond, fold, List, [], ◌∷◌, ◌++◌, map, length, take, Some, None, Ok, Err, Option, Result, nat_le, slice_index_or}
 use Rattle.tree.specs.Answers.{first_failing}
 use Rattle.tree.specs.Lines.{Follow, along, Before, In, Ascending}
 use Rattle.tree.specs.Paths.{names_of, capacity_of}
@@ -12,8 +12,7 @@ use Rattle.tree.specs.declared.walks.WalkFault.TheVariants.{Tree, Path}
 
 -- what a visitor holds after it was shown paths in turn
 abbrev pub after : {S N : Type 0} → (S → List N → S) → S → List (List N) → S
-after next s [] = s
-after next s (p ∷ ps) = after next (next s p) ps
+after next s ps = fold next s ps
 
 -- the path that shows a line: the initial path followed by the names along the line
 abbrev pub path_of : {N : Type 0} → (N → List N) → List N → N → List ℕ → List N

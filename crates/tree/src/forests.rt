@@ -1,31 +1,14 @@
 //! The walk over several names in turn, each from an empty path: all lines of one before those of the next.
-ghost use Rattle.std.specs.Prelude.{◌≡◌, All, IsTrue};
+ghost use Rattle.std.specs.Prelude.{◌≡◌};
 ghost use Rattle.tree.specs.Answers.{passed_unless};
 ghost use Rattle.tree.specs.Paths.{SameMemory, capacity_of};
-ghost use Rattle.tree.specs.Forests.{WalkedEach, first_high, refusal_each};
+ghost use Rattle.tree.specs.Forests.{WalkedEach, refusal_each};
 
 use crate::paths::PathFault;
 use crate::stacks::PathStack;
 use crate::trees::Tree;
 use crate::visitors::Visitor;
 use crate::walks::{Outcome, WalkFault, all_known, show};
-
-// Fault 9 at the first of some known names that is higher than there is room for.
-fn low_enough<T: Tree>(
-    tree: &T,
-    names: &[T::Name],
-    capacity: usize,
-) -> Result<(), WalkFault<T::Name, T::Fault>>
-    requires { All (λ n. IsTrue (T.known tree.now n)) names.now }
-    ensures { result ≡ passed_unless (first_high (T.heights tree.now) capacity names.now) }
-{
-    for n in names {
-        if tree.height(*n)? > capacity {
-            return Err(WalkFault::Path(PathFault { place: *n }));
-        }
-    }
-    Ok(())
-}
 
 // The refusal that is due before anything is shown.
 fn admit_each<T: Tree>(
@@ -36,7 +19,12 @@ fn admit_each<T: Tree>(
     ensures { result ≡ passed_unless (refusal_each (T.known tree.now) (T.heights tree.now) (T.missing tree.now) roots.now (capacity_of path.now)) }
 {
     all_known(tree, roots)?;
-    low_enough(tree, roots, path.capacity())
+    for n in roots {
+        if tree.height(*n)? > path.capacity() {
+            return Err(WalkFault::Path(PathFault { place: *n }));
+        }
+    }
+    Ok(())
 }
 
 /// Shows the lines of descent from several names in turn, each from an empty path.

@@ -105,11 +105,10 @@ fn admit<T: Tree>(
 {
     let height = tree.height(start)?;
     all_known(tree, path.names())?;
-    if path.len() + height <= path.capacity() {
-        Ok(())
-    } else {
-        Err(WalkFault::Path(PathFault { place: start }))
+    if path.len() + height > path.capacity() {
+        return Err(WalkFault::Path(PathFault { place: start }));
     }
+    Ok(())
 }
 
 /// Shows the lines of descent from a start, each by the initial path followed by the names along it.
