@@ -98,7 +98,7 @@ impl<'a, N: Copy> PathStack<'a, N> {
 
     // One name more where it is known to fit.
     pub(crate) fn put(&mut self, n: N)
-        requires { self.old.len < capacity_of self.old }
+        requires { length (names_of self.old) < capacity_of self.old }
         ensures names { names_of self.new ≡ names_of self.old ++ n ∷ [] }
         ensures memory { SameMemory self.old self.new }
     {

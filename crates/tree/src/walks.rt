@@ -1,5 +1,5 @@
 //! The walk: every line of descent, shown once and in document order, up to the first no.
-ghost use Rattle.std.specs.Prelude.{◌≡◌, ℕ, ◌+◌, ◌≤◌, true};
+ghost use Rattle.std.specs.Prelude.{◌≡◌, ℕ, ◌+◌, ◌≤◌, true, length};
 ghost use Rattle.tree.specs.Answers.{passed_unless};
 ghost use Rattle.tree.specs.Faults.{walk_layer, walk_number};
 ghost use Rattle.tree.specs.Paths.{SameMemory, capacity_of, names_of};
@@ -75,7 +75,7 @@ pub(crate) fn show<T: Tree, V: Visitor<T>>(
     visitor: &mut V,
 ) -> Outcome
     requires known { T.known tree.now n ≡ true }
-    requires room { path.old.len + T.heights tree.now n ≤ capacity_of path.old }
+    requires room { length (names_of path.old) + T.heights tree.now n ≤ capacity_of path.old }
     ensures ran { (h : ℕ) → T.heights tree.now n ≤ h → run (λ s q. V.next s tree.now q) (λ s q. V.accepts s tree.now q) visitor.old (shown_paths (T.children tree.now) h (names_of path.old) n) ≡ (visitor.new, refused_path result (names_of path.new)) }
     ensures back { result ≡ Finished → names_of path.new ≡ names_of path.old }
     ensures memory { SameMemory path.old path.new }
