@@ -1,55 +1,86 @@
--- How the entries at a depth are found one after another. Assumes nothing.
-use Rattle.std.proofs.Common.{◌≡◌, ℕ, zero, suc, ◌+◌, ◌<◌, ◌≤◌, eqb, ltb, ◌≢◌, List, [], ◌∷◌, length, get_or, drop, set, refl, ap, ◌∙◌, ⊎_elim, arith}
-use Rattle.std.proofs.lemmas.List.{drop_more, drop_all, get_or-set_other}
-use Rattle.std.proofs.lemmas.Bool.{cases_lt, cond-true, cond-false, cond_both, lt-ltb, le-ltb, eq-eqb, ne_eqb}
-use Rattle.outline.specs.Nesting.{at, highest, kids}
+-- The entries at a depth when there is one entry more at the end. Assumes nothing.
+use Rattle.std.proofs.Common.{◌≡◌, ℕ, zero, suc, ◌+◌, ◌-◌, ◌<◌, ◌≤◌, Bool, true, false, cond, eqb, ltb, ◌≢◌, List, [], ◌∷◌, ◌++◌, length, get_or, drop, refl, ap, ◌∙◌, ⊎_elim, arith, length-drop}
+use Rattle.std.proofs.lemmas.List.{drop-append-le, drop_all, get_or-drop, get_or_append_left, length_push}
+use Rattle.std.proofs.lemmas.Bool.{cases_eq, le-ltb, eq-eqb, ne_eqb, ltb-false}
+use Rattle.outline.specs.Nesting.{children_of, kids, roots_of}
 use Rattle.outline.specs.declared.entries.Entry.{Entry}
-use Rattle.outline.specs.declared.entries.Place.{Place}
 
--- the entries at a depth from a number on
-abbrev pub from_on : List ℕ → ℕ → ℕ → List Entry
-from_on depths depth i = kids depth i (drop i depths)
+-- an entry of the list is less deep, so that none behind it counts
+pub record Stops (ds : List ℕ) (depth : ℕ) : Type 0 where
+  pub at : ℕ
+  pub known : at < length ds
+  pub less : get_or ds at 0 < depth
 
-module _ (depths : List ℕ) (depth i : ℕ) where
-  opened : i < length depths → from_on depths depth i ≡ kids depth i (get_or depths i 0 ∷ drop (i + 1) depths)
-  opened l = ap (kids depth i) (drop_more depths i 0 l)
+grow : (b₁ b₂ : Bool) (n : Entry) (ks ks' more : List Entry) → b₁ ≡ false → ks' ≡ ks ++ more → cond b₁ [] (cond b₂ (n ∷ ks') ks') ≡ cond b₁ [] (cond b₂ (n ∷ ks) ks) ++ more
+grow true b₂ n ks ks' more f e = cc
+grow false true n ks ks' more f e = ap (λ es. n ∷ es) e
+grow false false n ks ks' more f e = e
 
-  after_one : kids depth (suc i) (drop (i + 1) depths) ≡ from_on depths depth (i + 1)
-  after_one = ap (λ j. kids depth j (drop (i + 1) depths)) (omega arith)
+stay : (b₁ b₂ : Bool) (n : Entry) (ks ks' : List Entry) → (b₁ ≡ false → ks' ≡ ks) → cond b₁ [] (cond b₂ (n ∷ ks') ks') ≡ cond b₁ [] (cond b₂ (n ∷ ks) ks)
+stay true b₂ n ks ks' e = refl
+stay false true n ks ks' e = ap (λ es. n ∷ es) (e refl)
+stay false false n ks ks' e = e refl
 
-  -- an entry at the depth is the next of them
-  pub kids_here : i < length depths → get_or depths i 0 ≡ depth → from_on depths depth i ≡ record { number = i } ∷ from_on depths depth (i + 1)
-  kids_here l e =
-      opened l ∙ cond-false (ltb (get_or depths i 0) depth) _ _ (le-ltb (get_or depths i 0) depth (omega arith))
-      ∙ cond-true (eqb (get_or depths i 0) depth) _ _ (eq-eqb _ _ e) ∙ ap (λ es. record { number = i } ∷ es) after_one
+-- where none is less deep, those of the entries behind are the next
+kids-append : (depth number : ℕ) (ds es : List ℕ) → ((k : ℕ) → k < length ds → depth ≤ get_or ds k 0) → kids depth number (ds ++ es) ≡ kids depth number ds ++ kids depth (number + length ds) es
+kids-append depth number [] es deep = ap (λ m. kids depth m es) (omega arith)
+kids-append depth number (d ∷ ds) es deep =
+    let next : suc number + length ds ≡ number + length (d ∷ ds) = omega arith in
+    grow (ltb d depth) (eqb d depth) _ _ _ _ (le-ltb d depth (deep 0 (omega arith)))
+    (kids-append depth (suc number) ds es (λ k l. deep (suc k) (omega arith)) ∙ ap (λ m. kids depth (suc number) ds ++ kids depth m es) next)
 
-  -- a deeper one is passed over
-  pub kids_deeper : i < length depths → depth < get_or depths i 0 → from_on depths depth i ≡ from_on depths depth (i + 1)
-  kids_deeper l d =
-      opened l ∙ cond-false (ltb (get_or depths i 0) depth) _ _ (le-ltb (get_or depths i 0) depth (omega arith))
-      ∙ cond-false (eqb (get_or depths i 0) depth) _ _ (ne_eqb (get_or depths i 0) depth (omega arith)) ∙ after_one
+-- where one is, none of them counts
+kids-append_stops : (depth number : ℕ) (ds es : List ℕ) → Stops ds depth → kids depth number (ds ++ es) ≡ kids depth number ds
+kids-append_stops depth number [] es s = absurd (omega (arith, s.known))
+kids-append_stops depth number (d ∷ ds) es s =
+    stay (ltb d depth) (eqb d depth) _ _ _ (λ f. kids-append_stops depth (suc number) ds es (later s.at s.known s.less (ltb-false d depth f)))
+  where
+    later : (k : ℕ) → k < length (d ∷ ds) → get_or (d ∷ ds) k 0 < depth → depth ≤ d → Stops ds depth
+    later zero l h f = absurd (omega arith)
+    later (suc k) l h f = record { at = k; known = omega arith; less = h }
 
-  -- and past the end, or at one that is less deep, there are no more
-  pub kids_end : length depths ≤ i → from_on depths depth i ≡ []
-  kids_end l = ap (kids depth i) (drop_all i depths l)
+-- nor does one at another depth
+kids-append_other : (depth number : ℕ) (ds : List ℕ) (x : ℕ) → x ≢ depth → kids depth number (ds ++ x ∷ []) ≡ kids depth number ds
+kids-append_other depth number [] x ne = rw (ne_eqb x depth ne) (elim (ltb x depth) as (λ b. cond {A = List Entry} b [] [] ≡ []) [ true ↦ refl | false ↦ refl ])
+kids-append_other depth number (d ∷ ds) x ne = stay (ltb d depth) (eqb d depth) _ _ _ (λ _. kids-append_other depth (suc number) ds x ne)
 
-  pub kids_stop : get_or depths i 0 < depth → from_on depths depth i ≡ []
-  kids_stop d = ⊎_elim (λ l. opened l ∙ cond-true (ltb (get_or depths i 0) depth) _ _ (lt-ltb (get_or depths i 0) depth d)) kids_end (cases_lt i (length depths))
+-- so one at the depth is the next
+kids-append_one : (depth number : ℕ) (ds : List ℕ) (x : ℕ) → ((k : ℕ) → k < length ds → depth ≤ get_or ds k 0) → x ≡ depth → kids depth number (ds ++ x ∷ []) ≡ kids depth number ds ++ record { number = number + length ds } ∷ []
+kids-append_one depth number ds x deep e =
+    kids-append depth number ds (x ∷ []) deep ∙ ap (λ es. kids depth number ds ++ es) (rw (le-ltb x depth (omega arith), eq-eqb x depth e) refl)
 
--- entries that are all deeper are passed over
-pub kids_skip : (depths : List ℕ) (depth i m : ℕ) → i + m ≤ length depths → ((k : ℕ) → i ≤ k → k < i + m → depth < get_or depths k 0) → from_on depths depth i ≡ from_on depths depth (i + m)
-kids_skip depths depth i zero l d = ap (from_on depths depth) (omega arith)
-kids_skip depths depth i (suc m) l d =
-    kids_deeper depths depth i (omega arith) (d i (omega arith) (omega arith))
-    ∙ kids_skip depths depth (i + 1) m (omega arith) (λ k a b. d k (omega arith) (omega arith))
-    ∙ ap (from_on depths depth) (omega arith)
+module _ (ds : List ℕ) (x : ℕ) where
+  behind : (j : ℕ) → j < length ds → children_of (ds ++ x ∷ []) j ≡ kids (get_or ds j 0 + 1) (j + 1) (drop (j + 1) ds ++ x ∷ [])
+  behind j l = rw (drop-append-le (j + 1) ds (x ∷ []) (omega arith), get_or_append_left ds (x ∷ []) 0 j l) refl
 
--- a place that is none of theirs has no part in how high they are
-pub highest_set : (places : List Place) (i : ℕ) (p : Place) (depth number : ℕ) (ds : List ℕ) → i < number → highest (set places i p) (kids depth number ds) ≡ highest places (kids depth number ds)
-highest_set places i p depth number [] l = refl
-highest_set places i p depth number (d ∷ ds) l =
-    let P : List Entry → Type 0 = λ es. highest (set places i p) es ≡ highest places es in
-    let kept : at (set places i p) number ≡ at places number = let ne : number ≢ i = omega arith in get_or-set_other places i number p _ ne in
-    let later = highest_set places i p depth (suc number) ds (omega arith) in
-    cond_both (ltb d depth) [] _ P (λ _. refl)
-    (λ _. cond_both (eqb d depth) _ _ P (λ _. cc (kept, later)) (λ _. later))
+  -- it is a child of the last that is one level above, where none behind that is as low,
+  pub children_one : (j : ℕ) → j < length ds → x ≡ get_or ds j 0 + 1 → ((k : ℕ) → j < k → k < length ds → get_or ds j 0 < get_or ds k 0) → children_of (ds ++ x ∷ []) j ≡ children_of ds j ++ record { number = length ds } ∷ []
+  children_one j l e deeper =
+      let long = length-drop (j + 1) ds in
+      let count : j + 1 + length (drop (j + 1) ds) ≡ length ds = omega arith in
+      let one = kids-append_one (get_or ds j 0 + 1) (j + 1) (drop (j + 1) ds) x (λ k h. rw (get_or-drop (j + 1) ds k 0) (let d = deeper (j + 1 + k) (omega arith) (omega arith) in omega arith)) e in
+      behind j l ∙ one ∙ ap (λ m. children_of ds j ++ record { number = m } ∷ []) count
+
+  -- and of no other
+  pub children_other : (j : ℕ) → j < length ds → (x ≡ get_or ds j 0 + 1 → (k : ℕ) × (j < k) × (k < length ds) × (get_or ds k 0 < x)) → children_of (ds ++ x ∷ []) j ≡ children_of ds j
+  children_other j l stops =
+      let depth = get_or ds j 0 + 1 in
+      let rest = drop (j + 1) ds in
+      behind j l ∙ ⊎_elim (λ e. kids-append_stops depth (j + 1) rest (x ∷ []) (less e (stops e))) (λ ne. kids-append_other depth (j + 1) rest x ne) (cases_eq x depth)
+    where
+      less : x ≡ get_or ds j 0 + 1 → (k : ℕ) × (j < k) × (k < length ds) × (get_or ds k 0 < x) → Stops (drop (j + 1) ds) (get_or ds j 0 + 1)
+      less e (k, after, known, low) =
+          let long = length-drop (j + 1) ds in
+          let same : j + 1 + (k - (j + 1)) ≡ k = omega arith in
+          record { at = k - (j + 1); known = omega arith; less = rw (get_or-drop (j + 1) ds (k - (j + 1)) 0, same) (omega arith) }
+
+  -- itself it has none
+  pub children_new : children_of (ds ++ x ∷ []) (length ds) ≡ []
+  children_new = rw (drop_all (length ds + 1) (ds ++ x ∷ []) (omega (arith, length_push ds x))) refl
+
+  -- an outermost one is the next of those
+  pub roots_one : x ≡ 0 → roots_of (ds ++ x ∷ []) ≡ roots_of ds ++ record { number = length ds } ∷ []
+  roots_one e = kids-append_one 0 0 ds x (λ k h. omega arith) e ∙ ap (λ m. roots_of ds ++ record { number = m } ∷ []) (omega arith)
+
+  pub roots_other : x ≢ 0 → roots_of (ds ++ x ∷ []) ≡ roots_of ds
+  roots_other = kids-append_other 0 0 ds x

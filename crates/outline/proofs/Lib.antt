@@ -1,6 +1,8 @@
+pub mod Asked
 pub mod Drafted
-pub mod Gather
+pub mod Heights
 pub mod Kids
+pub mod Measuring
+pub mod Nested
 pub mod Reading
-pub mod Settle
 pub mod Visiting

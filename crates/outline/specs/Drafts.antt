@@ -1,6 +1,7 @@
 -- What a line adds to a draft. Assumes nothing.
-use Rattle.std.specs.Prelude.{◌≡◌, ℕ, ◌+◌, ◌-◌, ◌^◌, min, cond, List, [], ◌∷◌, ◌++◌, map, length, Some, None, Ok, Err, vec_items, vec_len, string_bytes, Option, Result, Vec, String, ◌==◌, nat_lt, slice_index}
-use Rattle.std.specs.declared.alloc.Global.{Global}
+use Rattle.std.specs.Prelude.{◌≡◌, ℕ, ◌+◌, ◌-◌, ◌^◌, min, cond, List, [], ◌∷◌, ◌++◌, Some, None, Ok, Err, vec_items, vec_len, Option, Result, nat_lt}
+use Rattle.outline.specs.Items.{depths_of, items_of, texts_of}
+use Rattle.outline.specs.Nesting.{most_after}
 use Rattle.outline.specs.Reading.{reading, text_of}
 use Rattle.outline.specs.declared.drafts.Draft.{Draft}
 use Rattle.outline.specs.declared.faults.Cause.{Cause}
@@ -8,13 +9,12 @@ use Rattle.outline.specs.declared.faults.Cause.TheVariants.{Full, Memory}
 use Rattle.outline.specs.declared.faults.OutlineFault.{OutlineFault}
 use Rattle.outline.specs.declared.outlines.Outline.{Outline}
 
--- the texts of some entries, by their bytes
-abbrev pub texts_of : Vec (String Global) Global → List (List ℕ)
-texts_of texts = map string_bytes (vec_items texts)
+-- how deep each entry of a draft is, and the texts of them
+abbrev pub depths_in : Draft → List ℕ
+depths_in draft = depths_of (vec_items draft.items)
 
--- how deep the next entry may be: the first outermost, each other one level below the entry before
-abbrev pub most_after : List ℕ → ℕ
-most_after depths = cond (length depths == 0) 0 (slice_index depths (length depths - 1) + 1)
+abbrev pub texts_in : Draft → List (List ℕ)
+texts_in draft = texts_of (vec_items draft.items)
 
 -- the number of the line after so many
 abbrev pub number_after : ℕ → ℕ
@@ -28,15 +28,15 @@ bounded count (Err c) = Err c
 
 -- how deep the entry of the next line is, or none for a line without text, or why the line is refused
 abbrev pub judged : Draft → List ℕ → Result (Option ℕ) Cause
-judged draft line = bounded (vec_len draft.depths) (reading line (most_after (vec_items draft.depths)))
+judged draft line = bounded (vec_len draft.items) (reading line (most_after (depths_in draft)))
 
 -- a draft with one entry more
 abbrev pub Longer : Draft → ℕ → List ℕ → Draft → Type 0
-Longer before d text after = (vec_items after.depths ≡ vec_items before.depths ++ d ∷ []) × (texts_of after.texts ≡ texts_of before.texts ++ text ∷ [])
+Longer before d text after = (depths_in after ≡ depths_in before ++ d ∷ []) × (texts_in after ≡ texts_in before ++ text ∷ [])
 
 -- what a line adds, as it is judged
 abbrev pub Grown : Result (Option ℕ) Cause → Draft → List ℕ → Draft → Type 0
-Grown (Ok None) before line after = (vec_items after.depths ≡ vec_items before.depths) × (texts_of after.texts ≡ texts_of before.texts)
+Grown (Ok None) before line after = (depths_in after ≡ depths_in before) × (texts_in after ≡ texts_in before)
 Grown (Ok (Some d)) before line after = Longer before d (text_of line) after
 Grown (Err c) before line after = ⊥
 
@@ -53,4 +53,4 @@ Added before line (Err f) = Denied (judged before line) f.cause × (f.line ≡ n
 
 -- an outline has the entries of a draft
 abbrev pub Finished : Draft → Outline → Type 0
-Finished draft o = (vec_items o.depths ≡ vec_items draft.depths) × (texts_of o.texts ≡ texts_of draft.texts)
+Finished draft o = items_of (vec_items o.branches) ≡ vec_items draft.items

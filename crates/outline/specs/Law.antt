@@ -1,13 +1,14 @@
 -- The law of a tree holds of every outline, by what each of its values carries. Assumes nothing.
 use Rattle.std.specs.Prelude.{◌≡◌, ℕ, zero, suc, ◌+◌, ◌<◌, ◌≤◌, true, List, [], ◌∷◌, length, drop, vec_items, vec_len, ◌==◌, nat_lt, slice_index, slice_index_or}
 use Rattle.std.proofs.Math.Nat.{le-max_left, le-max_right}
-use Rattle.std.proofs.Common.{arith, length-drop}
+use Rattle.std.proofs.Common.{◌∙◌, arith, length-drop, sym}
+use Rattle.std.proofs.lemmas.List.{length-map}
 use Rattle.std.proofs.lemmas.Bool.{cond_both, ltb-true, lt-ltb}
 use Rattle.tree.specs.Lines.{TreeLaw, child_of}
-use Rattle.outline.specs.Nesting.{at, highest, kids}
-use Rattle.outline.specs.Trees.{known_in, height_in, children_in}
+use Rattle.outline.specs.Items.{heights_of}
+use Rattle.outline.specs.Nesting.{highest, kids}
+use Rattle.outline.specs.Trees.{known_in, height_in, children_in, depths_in}
 use Rattle.outline.specs.declared.entries.Entry.{Entry}
-use Rattle.outline.specs.declared.entries.Place.{Place}
 use Rattle.outline.specs.declared.outlines.Outline.{Outline}
 
 -- an entry among the children is one of those that were looked through
@@ -23,25 +24,28 @@ kids_within depth number (d ∷ ds) i e h =
     here (suc i) later l = let k = later i (omega arith) in omega arith
 
 -- none is higher than the highest
-highest_bound : (places : List Place) (es : List Entry) (i : ℕ) (e : Entry) → i < length es → (at places (slice_index_or es i e).number).height ≤ highest places es
-highest_bound places [] i e h = absurd (omega arith)
-highest_bound places (x ∷ es) zero e h = le-max_left _ _
-highest_bound places (x ∷ es) (suc i) e h = let k = highest_bound places es i e (omega arith) in omega (arith, le-max_right (at places x.number).height (highest places es))
+highest_bound : (heights : List ℕ) (es : List Entry) (i : ℕ) (e : Entry) → i < length es → slice_index heights (slice_index_or es i e).number ≤ highest heights es
+highest_bound heights [] i e h = absurd (omega arith)
+highest_bound heights (x ∷ es) zero e h = le-max_left _ _
+highest_bound heights (x ∷ es) (suc i) e h = let k = highest_bound heights es i e (omega arith) in omega (arith, le-max_right (slice_index heights x.number) (highest heights es))
 
--- a known entry stands within the list of places
-within : (o : Outline) (e : Entry) → known_in o e ≡ true → e.number < length (vec_items o.places)
-within o e k = omega (arith, ltb-true e.number (vec_len o.places) k, o.places.ok.0)
+-- the lists of depths and heights are as long as the outline
+depths_long : (o : Outline) → length (depths_in o) ≡ vec_len o.branches
+depths_long o = length-map _ _ ∙ length-map _ _ ∙ sym o.branches.ok.0
 
-child_known : (o : Outline) (e : Entry) (i : ℕ) → known_in o e ≡ true → i < length (children_in o e) → (child_of (children_in o) e i).number < vec_len o.places
+within : (o : Outline) (e : Entry) → known_in o e ≡ true → e.number < length (heights_of (vec_items o.branches))
+within o e k = omega (arith, ltb-true e.number (vec_len o.branches) k, o.branches.ok.0, length-map (vec_items o.branches) (λ b. b.height))
+
+child_known : (o : Outline) (e : Entry) (i : ℕ) → known_in o e ≡ true → i < length (children_in o e) → (child_of (children_in o) e i).number < vec_len o.branches
 child_known o e i k h =
-    let ds : List ℕ = vec_items o.depths in
+    let ds : List ℕ = depths_in o in
     let long = length-drop (e.number + 1) ds in
-    omega (arith, kids_within (slice_index ds e.number + 1) (e.number + 1) (drop (e.number + 1) ds) i e h, within o e k, o.places.ok.0, o.depths.ok.0, o.placed, long)
+    omega (arith, kids_within (slice_index ds e.number + 1) (e.number + 1) (drop (e.number + 1) ds) i e h, ltb-true e.number (vec_len o.branches) k, depths_long o, long)
 
 pub outline_law : (o : Outline) → TreeLaw (known_in o) (height_in o) (children_in o)
 outline_law o = record {
   kept = λ e i k h. lt-ltb _ _ (child_known o e i k h);
   low = λ e k. omega (arith, o.measured e.number (within o e k));
   high = λ e k. omega (arith, o.shallow e.number (within o e k));
-  falls = λ e i k h. omega (arith, o.measured e.number (within o e k), highest_bound (vec_items o.places) (children_in o e) i e h);
+  falls = λ e i k h. omega (arith, o.measured e.number (within o e k), highest_bound (heights_of (vec_items o.branches)) (children_in o e) i e h);
 }

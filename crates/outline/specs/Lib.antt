@@ -1,6 +1,7 @@
 pub mod Building
 pub mod Causes
 pub mod Drafts
+pub mod Items
 pub mod Law
 pub mod Nesting
 pub mod Reading

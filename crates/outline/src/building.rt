@@ -1,92 +1,120 @@
-//! How the runs of children are found: from the last entry to the first, so that what lies below is settled before.
-ghost use Rattle.outline.specs.Building.{Arranged, Gathering, Ready, SettledFrom};
-ghost use Rattle.outline.specs.Nesting.{Outermost, Stepwise, Within};
-ghost use Rattle.std.specs.Prelude.{◌≡◌, length, IfOk, OnOk};
+//! How the entries of an outline are nested, one after another, and how high each is, from the last to the first.
+ghost use Rattle.outline.specs.Building.{Opened};
+ghost use Rattle.outline.specs.Items.{children_lists, depths_of, heights_of, items_of};
+ghost use Rattle.outline.specs.Nesting.{Measured, Outermost, Parented, Shallow, Stepwise, Within, highest, most_after, roots_of};
+ghost use Rattle.std.specs.Prelude.{◌≡◌, ◌≤◌, [], ◌∷◌, ◌++◌, IfOk, slice_index, vec_len};
 
-use crate::entries::{Entry, Place};
+use crate::entries::Entry;
+use crate::items::{Branch, Item};
+use crate::outlines::Outline;
 use std::alloc::{AllocError, Global};
 
-// What was gathered: the height of the highest entry of the run, and the number just past all below them.
-#[derive(Clone, Copy)]
-pub struct Gathered {
-    pub(crate) height: usize,
-    pub(crate) past: usize,
-}
-
-// Appends the entries at a depth from a number on, up to the first that is less deep.
-pub(crate) fn gather(
-    depths: &[usize],
-    places: &[Place],
-    from: usize,
-    depth: usize,
-    children: &mut Vec<Entry>,
-) -> Result<Gathered, AllocError>
-    requires { Ready depths.now places.now children.old.items from depth }
-    ensures { IfOk result (λ g. Gathering depths.now places.now from depth children.old.items g children.new.items) }
-{
-    let mut at = from;
-    let mut height: usize = 0;
-    while at < depths.len() && depths[at] >= depth {
-        children.push(Entry { number: at })?;
-        height = height.max(places[at].height);
-        at = places[at].past;
-    }
-    Ok(Gathered { height, past: at })
-}
-
-// Settles every entry: its run of children, its height and the number just past its last descendant.
-pub(crate) fn settle(
-    depths: &[usize],
-    places: &mut [Place],
-    children: &mut Vec<Entry>,
-) -> Result<(), AllocError>
-    requires long { length places.old ≡ length depths.now }
-    requires within { Within depths.now }
-    requires stepwise { Stepwise depths.now }
-    ensures { OnOk result (SettledFrom depths.now places.new children.new.items 0) }
-{
-    for i in (0..depths.len()).rev() {
-        let first = children.len();
-        let gathered = gather(depths, places, i + 1, depths[i] + 1, children)?;
-        let count = children.len() - first;
-        places[i] = Place {
-            first,
-            count,
-            height: gathered.height + 1,
-            past: gathered.past,
-        };
-    }
-    Ok(())
-}
-
-// The place of each entry and the runs of children, with the entries of the outermost level from `top` on.
+// The branches of the entries so far, and the path of the last one: those that the next entry may be a child of.
 #[derive(Drop)]
-pub struct Runs {
-    pub(crate) places: Vec<Place>,
-    pub(crate) children: Vec<Entry>,
-    pub(crate) top: usize,
+pub struct Forest {
+    heap: Global,
+    pub(crate) branches: Vec<Branch>,
+    pub(crate) roots: Vec<Entry>,
+    // The outermost first.
+    path: Vec<Entry>,
+    ghost parented: { Parented (depths_of (items_of branches.items)) (children_lists branches.items) },
+    ghost rooted: { roots.items ≡ roots_of (depths_of (items_of branches.items)) },
+    ghost opened: { Opened (depths_of (items_of branches.items)) path.items },
 }
 
-// The runs of an outline, by how deep each entry is.
-pub(crate) fn arrange(heap: Global, depths: &[usize]) -> Result<Runs, AllocError>
-    requires within { Within depths.now }
-    requires outermost { Outermost depths.now }
-    requires stepwise { Stepwise depths.now }
-    ensures { IfOk result (λ t. Arranged depths.now t.places.items t.children.items t.top) }
+impl Forest {
+    // No branch yet.
+    pub(crate) fn new(heap: Global) -> Forest
+        ensures { result.branches.items ≡ [] }
+    {
+        Forest {
+            heap,
+            branches: Vec::new(heap),
+            roots: Vec::new(heap),
+            path: Vec::new(heap),
+        }
+    }
+
+    // One entry more: a child of the last one that is less deep, or outermost.
+    pub(crate) fn push(self, item: Item) -> Result<Forest, AllocError>
+        requires { item.depth ≤ most_after (depths_of (items_of self.branches.items)) }
+        ensures { IfOk result (λ f. items_of f.branches.items ≡ items_of self.branches.items ++ item ∷ []) }
+    {
+        let Forest {
+            heap,
+            mut branches,
+            mut roots,
+            mut path,
+        } = self;
+        let entry = Entry {
+            number: branches.len(),
+        };
+        path.truncate(item.depth);
+        match path.last() {
+            Some(parent) => branches[parent.number].children.push(entry)?,
+            None => roots.push(entry)?,
+        }
+        path.push(entry)?;
+        branches.push(Branch {
+            item,
+            height: 0,
+            children: Vec::new(heap),
+        })?;
+        Ok(Forest {
+            heap,
+            branches,
+            roots,
+            path,
+        })
+    }
+
+    // The outline of these branches.
+    pub(crate) fn outline(self) -> Outline
+        requires few { vec_len self.branches ≤ 4096 }
+        requires outermost { Outermost (depths_of (items_of self.branches.items)) }
+        requires stepwise { Stepwise (depths_of (items_of self.branches.items)) }
+        requires within { Within (depths_of (items_of self.branches.items)) }
+        ensures { items_of result.branches.items ≡ items_of self.branches.items }
+    {
+        let Forest {
+            mut branches,
+            roots,
+            ..
+        } = self;
+        measure(&mut branches);
+        Outline { branches, roots }
+    }
+}
+
+// How high an entry is; 0 past the end.
+fn height(branches: &[Branch], e: Entry) -> usize
+    ensures { result ≡ slice_index (heights_of branches.now) e.number }
 {
-    let mut places = vec![in heap; Place {
-        first: 0,
-        count: 0,
-        height: 0,
-        past: 0
-    }; depths.len()]?;
-    let mut children = Vec::new(heap);
-    settle(depths, places.as_mut_slice(), &mut children)?;
-    let top = children.len();
-    gather(depths, &places, 0, 0, &mut children)?;
-    Ok(Runs {
-        places,
-        children,
-        top,
-    })
+    branches.get(e.number).map_or(0, |branch| branch.height)
+}
+
+// The height of the highest of some entries; 0 of none.
+fn highest(branches: &[Branch], entries: &[Entry]) -> usize
+    ensures { result ≡ highest (heights_of branches.now) entries.now }
+{
+    entries
+        .iter()
+        .map(|e| height(branches, *e))
+        .max()
+        .unwrap_or(0)
+}
+
+// Finds how high each entry is, from the last to the first, so that its children are known before it.
+fn measure(branches: &mut [Branch])
+    requires within { Within (depths_of (items_of branches.old)) }
+    requires parented { Parented (depths_of (items_of branches.old)) (children_lists branches.old) }
+    ensures items { items_of branches.new ≡ items_of branches.old }
+    ensures children { children_lists branches.new ≡ children_lists branches.old }
+    ensures measured { Measured (depths_of (items_of branches.old)) (heights_of branches.new) }
+    ensures shallow { Shallow (depths_of (items_of branches.old)) (heights_of branches.new) }
+{
+    for i in (0..branches.len()).rev() {
+        let known: &[Branch] = branches;
+        branches[i].height = highest(known, &known[i].children) + 1;
+    }
 }

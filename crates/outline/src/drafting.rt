@@ -1,10 +1,12 @@
 //! Adding lines to a draft, and making the outline of it.
 ghost use Rattle.std.specs.Prelude.{◌≡◌, ◌<◌, ◌≤◌, [], IfOk, vec_len};
-ghost use Rattle.outline.specs.Drafts.{Added, Finished, Longer, judged, most_after};
+ghost use Rattle.outline.specs.Drafts.{Added, Finished, Longer, depths_in, judged};
+ghost use Rattle.outline.specs.Nesting.{most_after};
 
-use crate::building::arrange;
+use crate::building::Forest;
 use crate::drafts::Draft;
 use crate::faults::{Cause, OutlineFault};
+use crate::items::Item;
 use crate::lines::{depth, text};
 use crate::outlines::Outline;
 use std::alloc::{AllocError, Global};
@@ -15,26 +17,20 @@ pub const ENTRIES: usize = 4096;
 impl Draft {
     /// A draft without entries.
     pub fn new(heap: Global) -> Draft
-        ensures { (result.depths.items ≡ []) × (result.texts.items ≡ []) × (result.lines ≡ 0) }
+        ensures { (result.items.items ≡ []) × (result.lines ≡ 0) }
     {
         Draft {
             heap,
-            depths: Vec::new(heap),
-            texts: Vec::new(heap),
+            items: Vec::new(heap),
             lines: 0,
         }
     }
 
     // How deep the next entry may be: the first outermost, each other one level below the entry before.
     fn most(&self) -> usize
-        ensures { result ≡ most_after self.now.depths.items }
+        ensures { result ≡ most_after (depths_in self.now) }
     {
-        let len = self.depths.len();
-        if len == 0 {
-            0
-        } else {
-            self.depths[len - 1] + 1
-        }
+        self.items.last().map_or(0, |item| item.depth + 1)
     }
 
     // How deep the entry of the next line is, or why the line is refused.
@@ -44,7 +40,7 @@ impl Draft {
         let Some(depth) = depth(line, self.most())? else {
             return Ok(None);
         };
-        if self.depths.len() < ENTRIES {
+        if self.items.len() < ENTRIES {
             Ok(Some(depth))
         } else {
             Err(Cause::Full)
@@ -83,43 +79,23 @@ impl Draft {
     pub fn finish(self) -> Result<Outline, AllocError>
         ensures { IfOk result (λ o. Finished self o) }
     {
-        let Draft {
-            heap,
-            depths,
-            texts,
-            ..
-        } = self;
-        let runs = arrange(heap, &depths)?;
-        Ok(Outline {
-            depths,
-            texts,
-            places: runs.places,
-            children: runs.children,
-            top: runs.top,
-        })
+        let Draft { heap, items, .. } = self;
+        let mut forest = Forest::new(heap);
+        for item in items {
+            forest = forest.push(item)?;
+        }
+        Ok(forest.outline())
     }
 
     // One entry more, where it is known to nest.
-    fn push(self, depth: usize, text: &str) -> Result<Draft, AllocError>
-        requires room { vec_len self.depths < 4096 }
+    fn push(mut self, depth: usize, text: &str) -> Result<Draft, AllocError>
+        requires room { vec_len self.items < 4096 }
         requires within { depth < 64 }
-        requires nests { depth ≤ most_after self.depths.items }
+        requires nests { depth ≤ most_after (depths_in self) }
         ensures { IfOk result (λ d. Longer self depth text.now d × (d.lines ≡ self.lines)) }
     {
-        let Draft {
-            heap,
-            mut depths,
-            mut texts,
-            lines,
-        } = self;
-        let text = String::from_str(heap, text)?;
-        texts.push(text)?;
-        depths.push(depth)?;
-        Ok(Draft {
-            heap,
-            depths,
-            texts,
-            lines,
-        })
+        let text = String::from_str(self.heap, text)?;
+        self.items.push(Item { depth, text })?;
+        Ok(self)
     }
 }

@@ -28,16 +28,3 @@ impl Fault for NoEntry {
         Layer::Table
     }
 }
-
-/// Where an entry stands in the tree.
-#[derive(Clone, Copy)]
-pub struct Place {
-    /// Where its run of children begins in the list of children.
-    pub(crate) first: usize,
-    /// How many children it has.
-    pub(crate) count: usize,
-    /// 1 for a leaf, else one more than its highest child.
-    pub(crate) height: usize,
-    /// The number just past its last descendant.
-    pub(crate) past: usize,
-}

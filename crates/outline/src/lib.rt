@@ -6,6 +6,7 @@ pub mod drafting;
 pub mod drafts;
 pub mod entries;
 pub mod faults;
+pub mod items;
 pub mod lines;
 pub mod outlines;
 pub mod questions;

@@ -1,28 +1,23 @@
-//! The outline: its entries by number, and for each the run of its children.
-ghost use Rattle.std.specs.Prelude.{◌≡◌, ◌≤◌, drop, vec_len};
-ghost use Rattle.outline.specs.Nesting.{Fit, Measured, Outermost, Run, Shallow, Stepwise, roots_of};
+//! The outline: its entries by number, each with its children.
+ghost use Rattle.std.specs.Prelude.{◌≡◌, ◌≤◌, vec_len};
+ghost use Rattle.outline.specs.Items.{children_lists, depths_of, heights_of, items_of};
+ghost use Rattle.outline.specs.Nesting.{Measured, Outermost, Parented, Shallow, Stepwise, roots_of};
 
-use crate::entries::{Entry, Place};
+use crate::entries::Entry;
+use crate::items::Branch;
 
 /// An outline of at most 4,096 entries, in at most 64 levels.
 #[derive(Drop)]
 pub struct Outline {
-    // By number: how many levels an entry is below the outermost, its text and its place in the tree.
-    pub(crate) depths: Vec<usize>,
-    pub(crate) texts: Vec<String>,
-    pub(crate) places: Vec<Place>,
-    // The children of every entry, a run for each, and from `top` on the entries of the outermost level.
-    pub(crate) children: Vec<Entry>,
-    pub(crate) top: usize,
-    ghost few: { vec_len depths ≤ 4096 },
-    ghost texted: { vec_len texts ≡ vec_len depths },
-    ghost placed: { vec_len places ≡ vec_len depths },
-    ghost outermost: { Outermost depths.items },
-    ghost stepwise: { Stepwise depths.items },
-    ghost fits: { Fit places.items children.items },
-    ghost runs: { Run depths.items places.items children.items },
-    ghost measured: { Measured depths.items places.items },
-    ghost shallow: { Shallow depths.items places.items },
-    ghost topped: { top ≤ vec_len children },
-    ghost rooted: { drop top children.items ≡ roots_of depths.items },
+    // The entries by number.
+    pub(crate) branches: Vec<Branch>,
+    // Those of the outermost level, in the order of their lines.
+    pub(crate) roots: Vec<Entry>,
+    ghost few: { vec_len branches ≤ 4096 },
+    ghost outermost: { Outermost (depths_of (items_of branches.items)) },
+    ghost stepwise: { Stepwise (depths_of (items_of branches.items)) },
+    ghost parented: { Parented (depths_of (items_of branches.items)) (children_lists branches.items) },
+    ghost measured: { Measured (depths_of (items_of branches.items)) (heights_of branches.items) },
+    ghost shallow: { Shallow (depths_of (items_of branches.items)) (heights_of branches.items) },
+    ghost rooted: { roots.items ≡ roots_of (depths_of (items_of branches.items)) },
 }

@@ -1,9 +1,9 @@
-use Rattle.std.proofs.Common.{ℕ, List, vec_items, subst, rules}
-use Rattle.outline.specs.Building.{Arranged}
+use Rattle.std.proofs.Common.{◌++◌, vec_items, sym, ap, ◌∙◌}
+use Rattle.outline.specs.Items.{items_of}
+use Rattle.outline.proofs.Drafted.{near_next}
 use Rattle.outline.proofs.drafts.Draft.finish.Goals as goal
 
-pub invariant_of-result : goal.invariant_of-result
-invariant_of-result c =
-    let t = c.in_ok-runs.runs in
-    let a = subst (λ (ds : List ℕ). Arranged ds (vec_items t.places) (vec_items t.children) t.top) c.deref.ensures.value c.in_ok-runs.ensures in
-    search rules
+pub push-requires : goal.push-requires
+push-requires c =
+    let held = items_of (vec_items c.loop-item.forest.branches) in
+    near_next held _ c.in-Some.item (ap (λ is. held ++ is) (sym c.in-Some.ensures.steps.0) ∙ c.loop-item.invariant.2) c.args.self.outermost c.args.self.stepwise

@@ -1,10 +1,10 @@
-use Rattle.std.proofs.Common.{◌-◌, ◌<◌, vec_items, vec_len, arith}
-use Rattle.std.proofs.lemmas.List.{get_or_read_under}
+use Rattle.outline.proofs.Drafted.{last_depth, most_is}
+use Rattle.std.proofs.Common.{rules, ◌-◌, length, ◌<◌}
+use Rattle.outline.specs.Drafts.{depths_in}
 use Rattle.outline.proofs.drafts.Draft.most.Goals as goal
 
--- no entry is below level 64, so the number of the next level fits
-pub overflow_add-result : goal.overflow_add-result
-overflow_add-result c =
-    let depths = c.args.self.now.depths in
-    let some : c.len-len.result - 1 < vec_len depths = omega (arith, c.if-len-eq0.false, c.len-len.ensures) in
-    omega (arith, c.args.self.now.within (c.len-len.result - 1), get_or_read_under (vec_items depths) (c.len-len.result - 1) (vec_len depths) _ 0 c.index.ensures some depths.ok.0)
+pub map_or-requires : goal.map_or-requires
+map_or-requires c = λ x is _ _ _. let w = c.args.self.now.within (length (depths_in c.args.self.now) - 1) in let n : x.now.depth < 64 = rw (← last_depth c.deref.result.now c.last.result x c.last.ensures.value is, c.deref.ensures.value) w in search rules
+
+pub returns : goal.returns
+returns c = rw (← c.deref.ensures.value) (most_is c.deref.result.now c.last.result _ c.last.ensures.value c.map_or.ensures (λ x p. search rules))
