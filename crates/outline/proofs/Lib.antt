@@ -2,7 +2,6 @@ pub mod Asked
 pub mod Drafted
 pub mod Heights
 pub mod Kids
-pub mod Measuring
-pub mod Nested
+pub mod Nest
 pub mod Reading
 pub mod Visiting

@@ -1,16 +1,14 @@
--- Inner: what is known of the path of the last entry while an outline is built. Assumes nothing.
-use Rattle.std.specs.Prelude.{◌≡◌, ℕ, ◌<◌, List, length, slice_index, slice_index_or}
-use Rattle.outline.specs.Nesting.{most_after}
+-- Inner: what the branches of an outline are once they are nested. Assumes nothing.
+use Rattle.std.specs.Prelude.{◌≡◌, List}
+use Rattle.outline.specs.Items.{children_lists, depths_of, heights_of, items_of}
+use Rattle.outline.specs.Nesting.{Measured, Parented, Shallow, roots_of}
 use Rattle.outline.specs.declared.entries.Entry.{Entry}
+use Rattle.outline.specs.declared.items.Branch.{Branch}
 
--- the number of the entry at a depth
-abbrev pub level : List Entry → ℕ → ℕ
-level path d = (slice_index_or path d (record { number = 0 })).number
-
--- A path has those that the next entry may be a child of, the outermost first: the last at each depth, and none after it
--- is as low.
-pub record Opened (depths : List ℕ) (path : List Entry) : Type 0 where
-  pub count : length path ≡ most_after depths
-  pub known : (d : ℕ) → d < length path → level path d < length depths
-  pub depth : (d : ℕ) → d < length path → slice_index depths (level path d) ≡ d
-  pub deeper : (d k : ℕ) → d < length path → level path d < k → k < length depths → d < slice_index depths k
+-- the same entries have their children and their heights, and the outermost are known
+pub record Nested (before after : List Branch) (roots : List Entry) : Type 0 where
+  pub items : items_of after ≡ items_of before
+  pub parented : Parented (depths_of (items_of before)) (children_lists after)
+  pub measured : Measured (depths_of (items_of before)) (heights_of after)
+  pub shallow : Shallow (depths_of (items_of before)) (heights_of after)
+  pub rooted : roots ≡ roots_of (depths_of (items_of before))

@@ -1,5 +1,6 @@
 -- What is held of the entries of a draft or an outline, each part as a list by number. Assumes nothing.
-use Rattle.std.specs.Prelude.{ℕ, List, map, string_bytes, vec_items}
+use Rattle.std.specs.Prelude.{ℕ, List, map, string_bytes, vec_items, Vec}
+use Rattle.std.specs.declared.alloc.Global.{Global}
 use Rattle.outline.specs.declared.entries.Entry.{Entry}
 use Rattle.outline.specs.declared.items.Branch.{Branch}
 use Rattle.outline.specs.declared.items.Item.{Item}
@@ -20,3 +21,7 @@ heights_of branches = map (λ b. b.height) branches
 
 abbrev pub children_lists : List Branch → List (List Entry)
 children_lists branches = map (λ b. vec_items b.children) branches
+
+-- some lists of entries, each by its items
+abbrev pub lists_of : List (Vec Entry Global) → List (List Entry)
+lists_of lists = map vec_items lists

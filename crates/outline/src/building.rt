@@ -1,89 +1,45 @@
-//! How the entries of an outline are nested, one after another, and how high each is, from the last to the first.
-ghost use Rattle.outline.specs.Building.{Opened};
-ghost use Rattle.outline.specs.Items.{children_lists, depths_of, heights_of, items_of};
-ghost use Rattle.outline.specs.Nesting.{Measured, Outermost, Parented, Shallow, Stepwise, Within, highest, most_after, roots_of};
-ghost use Rattle.std.specs.Prelude.{◌≡◌, ◌≤◌, [], ◌∷◌, ◌++◌, IfOk, slice_index, vec_len};
+//! Which entries are whose children, and how high each is: found from the last entry to the first, so that what is below
+//! an entry is known before it.
+ghost use Rattle.outline.specs.Building.{Nested};
+ghost use Rattle.outline.specs.Items.{depths_of, heights_of, items_of, lists_of};
+ghost use Rattle.outline.specs.Nesting.{Stepwise, Within, highest};
+ghost use Rattle.std.specs.Prelude.{◌≡◌, [], IfOk, replicate, reverse, slice_index};
 
 use crate::entries::Entry;
 use crate::items::{Branch, Item};
-use crate::outlines::Outline;
+use crate::lines::LEVELS;
 use std::alloc::{AllocError, Global};
+use std::mem;
 
-// The branches of the entries so far, and the path of the last one: those that the next entry may be a child of.
-#[derive(Drop)]
-pub struct Forest {
-    heap: Global,
-    pub(crate) branches: Vec<Branch>,
-    pub(crate) roots: Vec<Entry>,
-    // The outermost first.
-    path: Vec<Entry>,
-    ghost parented: { Parented (depths_of (items_of branches.items)) (children_lists branches.items) },
-    ghost rooted: { roots.items ≡ roots_of (depths_of (items_of branches.items)) },
-    ghost opened: { Opened (depths_of (items_of branches.items)) path.items },
+// The branches of some entries, each a leaf.
+pub(crate) fn leaves(heap: Global, items: Vec<Item>) -> Result<Vec<Branch>, AllocError>
+    ensures { IfOk result (λ branches. items_of branches.items ≡ items.items) }
+{
+    items
+        .into_iter()
+        .map(|item| Branch {
+            item,
+            height: 1,
+            children: Vec::new(heap),
+        })
+        .collect(heap)
 }
 
-impl Forest {
-    // No branch yet.
-    pub(crate) fn new(heap: Global) -> Forest
-        ensures { result.branches.items ≡ [] }
-    {
-        Forest {
-            heap,
-            branches: Vec::new(heap),
-            roots: Vec::new(heap),
-            path: Vec::new(heap),
-        }
-    }
+// An empty list for each level, and one for the level below the last.
+fn levels(heap: Global) -> Result<Vec<Vec<Entry>>, AllocError>
+    ensures { IfOk result (λ levels. lists_of levels.items ≡ replicate 65 []) }
+{
+    (0..LEVELS + 1).map(|_| Vec::new(heap)).collect(heap)
+}
 
-    // One entry more: a child of the last one that is less deep, or outermost.
-    pub(crate) fn push(self, item: Item) -> Result<Forest, AllocError>
-        requires { item.depth ≤ most_after (depths_of (items_of self.branches.items)) }
-        ensures { IfOk result (λ f. items_of f.branches.items ≡ items_of self.branches.items ++ item ∷ []) }
-    {
-        let Forest {
-            heap,
-            mut branches,
-            mut roots,
-            mut path,
-        } = self;
-        let entry = Entry {
-            number: branches.len(),
-        };
-        path.truncate(item.depth);
-        match path.last() {
-            Some(parent) => branches[parent.number].children.push(entry)?,
-            None => roots.push(entry)?,
-        }
-        path.push(entry)?;
-        branches.push(Branch {
-            item,
-            height: 0,
-            children: Vec::new(heap),
-        })?;
-        Ok(Forest {
-            heap,
-            branches,
-            roots,
-            path,
-        })
-    }
-
-    // The outline of these branches.
-    pub(crate) fn outline(self) -> Outline
-        requires few { vec_len self.branches ≤ 4096 }
-        requires outermost { Outermost (depths_of (items_of self.branches.items)) }
-        requires stepwise { Stepwise (depths_of (items_of self.branches.items)) }
-        requires within { Within (depths_of (items_of self.branches.items)) }
-        ensures { items_of result.branches.items ≡ items_of self.branches.items }
-    {
-        let Forest {
-            mut branches,
-            roots,
-            ..
-        } = self;
-        measure(&mut branches);
-        Outline { branches, roots }
-    }
+// Takes what is on a list, the last first.
+fn taken(heap: Global, list: &mut Vec<Entry>) -> Vec<Entry>
+    ensures taken { result.items ≡ reverse list.old.items }
+    ensures left { list.new.items ≡ [] }
+{
+    let mut taken = mem::replace(list, Vec::new(heap));
+    taken.reverse();
+    taken
 }
 
 // How high an entry is; 0 past the end.
@@ -104,17 +60,22 @@ fn highest(branches: &[Branch], entries: &[Entry]) -> usize
         .unwrap_or(0)
 }
 
-// Finds how high each entry is, from the last to the first, so that its children are known before it.
-fn measure(branches: &mut [Branch])
+// Gives each branch its children and its height, and answers with the outermost entries.
+pub(crate) fn nest(heap: Global, branches: &mut [Branch]) -> Result<Vec<Entry>, AllocError>
+    requires stepwise { Stepwise (depths_of (items_of branches.old)) }
     requires within { Within (depths_of (items_of branches.old)) }
-    requires parented { Parented (depths_of (items_of branches.old)) (children_lists branches.old) }
-    ensures items { items_of branches.new ≡ items_of branches.old }
-    ensures children { children_lists branches.new ≡ children_lists branches.old }
-    ensures measured { Measured (depths_of (items_of branches.old)) (heights_of branches.new) }
-    ensures shallow { Shallow (depths_of (items_of branches.old)) (heights_of branches.new) }
+    ensures { IfOk result (λ roots. Nested branches.old branches.new roots.items) }
 {
+    // By level, the entries that have no parent yet, the last first.
+    let mut free = levels(heap)?;
     for i in (0..branches.len()).rev() {
-        let known: &[Branch] = branches;
-        branches[i].height = highest(known, &known[i].children) + 1;
+        let depth = branches[i].item.depth;
+        let children = taken(heap, &mut free[depth + 1]);
+        let height = highest(branches, &children) + 1;
+        let branch = &mut branches[i];
+        branch.height = height;
+        branch.children = children;
+        free[depth].push(Entry { number: i })?;
     }
+    Ok(taken(heap, &mut free[0]))
 }

@@ -3,7 +3,7 @@ ghost use Rattle.std.specs.Prelude.{◌≡◌, ◌<◌, ◌≤◌, [], IfOk, vec
 ghost use Rattle.outline.specs.Drafts.{Added, Finished, Longer, depths_in, judged};
 ghost use Rattle.outline.specs.Nesting.{most_after};
 
-use crate::building::Forest;
+use crate::building::{leaves, nest};
 use crate::drafts::Draft;
 use crate::faults::{Cause, OutlineFault};
 use crate::items::Item;
@@ -80,11 +80,9 @@ impl Draft {
         ensures { IfOk result (λ o. Finished self o) }
     {
         let Draft { heap, items, .. } = self;
-        let mut forest = Forest::new(heap);
-        for item in items {
-            forest = forest.push(item)?;
-        }
-        Ok(forest.outline())
+        let mut branches = leaves(heap, items)?;
+        let roots = nest(heap, &mut branches)?;
+        Ok(Outline { branches, roots })
     }
 
     // One entry more, where it is known to nest.
