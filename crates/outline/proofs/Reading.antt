@@ -1,21 +1,78 @@
--- Where a line may be cut. Assumes nothing.
-use Rattle.std.proofs.Common.{◌≡◌, ℕ, ◌+◌, ◌-◌, ◌<◌, ◌≤◌, true, eqb, List, length, get_or, IsUtf8, subst, ⊎_elim, arith}
-use Rattle.std.proofs.lemmas.Bool.{or_cases, eqb-true, cases_lt}
-use Rattle.std.proofs.lemmas.Str.{IsCharBoundary-after_ascii, IsCharBoundary-before_ascii, IsCharBoundary-end}
-use Rattle.std.specs.Str.{IsCharBoundary}
-use Rattle.outline.specs.Reading.{is_blank}
+-- What is left of a line when its ends are trimmed. Assumes nothing.
+use Rattle.std.proofs.Common.{◌≡◌, ℕ, ◌+◌, ◌-◌, ◌<◌, Bool, true, eqb, ltb, List, [], ◌∷◌, ◌++◌, length, get_or, drop, take, reverse, min, Some, None, Option, sym, refl, ap, ◌∙◌, ⊎_elim, arith}
+use Rattle.std.proofs.lemmas.Bool.{cases_eq, cases_Bool, cond-true, cond-false, eq-eqb, eqb-true, lt-ltb, ne_eqb, or_cases}
+use Rattle.std.proofs.lemmas.List.{drop_all, length_push, length-reverse, reverse-append, take-append-drop, take_all, take_more}
+use Rattle.std.proofs.lemmas.List.Sums.{prefix_len-le-length, suffix_len_is}
+use Rattle.std.proofs.lemmas.List.Folds.{prefix_len-append}
+use Rattle.std.proofs.lemmas.Str.{encode_ascii, len_utf8_ascii}
+use Rattle.std.proofs.lemmas.Str.Pattern.{drop_at_char}
+use Rattle.std.specs.Char.{char_set_contains}
+use Rattle.std.specs.List.{prefix_len, suffix_len}
+use Rattle.std.specs.Str.Pattern.{CutsPrefixes, CutsSuffixes, FindsCharPrefix, FindsSuffixBy, IsFullyTrimmed, IsTrimEndMatches, IsTrimStartMatches}
+use Rattle.outline.specs.Reading.{is_blank, spaces, text_end, text_of}
 
-pub blank_ascii : (b : ℕ) → is_blank b ≡ true → b < 128
+blank_ascii : (b : ℕ) → is_blank b ≡ true → b < 128
 blank_ascii b h = ⊎_elim (λ e. omega (arith, eqb-true b 32 e)) (λ e. omega (arith, eqb-true b 13 e)) (or_cases (eqb b 32) (eqb b 13) h)
 
--- behind a space
-pub cut_after : (line : List ℕ) (i : ℕ) → IsUtf8 line → i ≤ length line → ((k : ℕ) → k < i → get_or line k 0 ≡ 32) → 0 < i → IsCharBoundary line i
-cut_after line i u l spaces p =
-    let P : ℕ → Type 0 = IsCharBoundary line in
-    subst P {x = i - 1 + 1} (omega arith) (IsCharBoundary-after_ascii line (i - 1) u (omega arith) (omega (arith, spaces (i - 1) (omega arith))))
+-- each match cut off the front is a space
+cut_spaces : (s r ns : List ℕ) → CutsPrefixes (FindsCharPrefix 32) s ns r → spaces s + length r ≡ length s + spaces r
+cut_spaces s r [] is = rw is (omega arith)
+cut_spaces s r (n ∷ ns) (m, cuts, at, is) =
+    let front : m ≡ 32 ∷ r = drop_at_char 32 m 0 n at (omega arith) ∙ ap (λ es. 32 ∷ es) (sym is) in
+    omega (arith, cut_spaces s m ns cuts, ap spaces front, ap length front)
 
--- at the end, or before a blank
-pub cut_before : (line : List ℕ) (i : ℕ) → i ≤ length line → (i < length line → get_or line i 0 < 128) → IsCharBoundary line i
-cut_before line i l ascii =
-    let P : ℕ → Type 0 = IsCharBoundary line in
-    ⊎_elim (λ h. IsCharBoundary-before_ascii line i h (ascii h)) (λ h. subst P {x = length line} (omega arith) (IsCharBoundary-end line)) (cases_lt i (length line))
+no_space : (r : List ℕ) → IsFullyTrimmed (FindsCharPrefix 32) r → spaces r ≡ 0
+no_space r (Some n, at, e) = absurd (omega (arith, at.ends, len_utf8_ascii 32 (omega arith)))
+no_space [] (None, at, e) = refl
+no_space (b ∷ r) (None, at, e) = ⊎_elim (λ is. absurd (at r (ap (λ b. b ∷ r) is ∙ sym (ap (λ es. es ++ r) (encode_ascii 32 (omega arith)))))) (λ ne. cond-false (eqb b 32) _ _ (ne_eqb b 32 ne)) (cases_eq b 32)
+
+pub trimmed_start : (s r : List ℕ) → IsTrimStartMatches (FindsCharPrefix 32) s r → length s ≡ spaces s + length r
+trimmed_start s r ((ns, cuts), end) = omega (arith, cut_spaces s r ns cuts, no_space r end)
+
+-- a space and a carriage return are the blanks, and so is each match cut off the end
+abbrev Found : List ℕ → Option ℕ → Type 0
+Found s o = (k : ℕ → Bool) → ((c : ℕ) → char_set_contains (32 ∷ 13 ∷ []) c ≡ k c) → FindsSuffixBy k s o
+
+set_blank : (c : ℕ) → char_set_contains (32 ∷ 13 ∷ []) c ≡ is_blank c
+set_blank c = grind arith
+
+cut_blanks : (s r ns : List ℕ) → CutsSuffixes Found s ns r → suffix_len is_blank s + length r ≡ length s + suffix_len is_blank r
+cut_blanks s r [] is = rw is (omega arith)
+cut_blanks s r (n ∷ ns) (m, cuts, found, is) =
+    let f = found is_blank set_blank in
+    let c = f.0 in
+    let blank = f.1 in
+    let at = f.2 in
+    let end : drop (length m - n) m ≡ c ∷ [] = drop_at_char c m (length m - n) (length m) at (blank_ascii c blank) ∙ ap (λ es. c ∷ es) (drop_all (length m) m (omega arith)) in
+    let whole : m ≡ r ++ c ∷ [] = sym (take-append-drop (length m - n) m) ∙ ap (λ es. take (length m - n) m ++ es) end ∙ ap (λ es. es ++ c ∷ []) (sym is) in
+    let one : suffix_len is_blank m ≡ 1 + suffix_len is_blank r = ap (prefix_len is_blank) (ap reverse whole ∙ reverse-append r (c ∷ [])) ∙ cond-true (is_blank c) _ 0 blank in
+    omega (arith, cut_blanks s m ns cuts, one, ap length whole, length_push r c)
+
+no_blank : (r : List ℕ) → IsFullyTrimmed (FindsSuffixBy is_blank) r → suffix_len is_blank r ≡ 0
+no_blank r (Some n, (c, blank, at), e) = absurd (omega (arith, at.ends, len_utf8_ascii c (blank_ascii c blank)))
+no_blank r (None, at, e) =
+    let last = get_or r (length r - 1) 0 in
+    let whole : 0 < length r → r ≡ take (length r - 1) r ++ last ∷ [] = λ l. sym (take_all (length r - 1 + 1) r (omega arith)) ∙ take_more r (length r - 1) 0 (omega arith) in
+    omega (arith, suffix_len_is is_blank r (length r) 0 (omega arith) (λ k a b. absurd (omega arith))
+    (λ l. ⊎_elim (λ blank. let b = blank_ascii last blank in at last (take (length r - 1) r) (cond-true (ltb last 55296) true _ (lt-ltb last 55296 (omega arith))) (whole l ∙ ap (λ es. take (length r - 1) r ++ es) (sym (encode_ascii last b)))) (λ f. f) (cases_Bool (is_blank last))))
+
+pub trimmed_end : (s r : List ℕ) → IsTrimEndMatches Found s r → length s ≡ suffix_len is_blank s + length r
+trimmed_end s r ((ns, cuts), (o, found, e)) = omega (arith, cut_blanks s r ns cuts, no_blank r (o, found is_blank set_blank, e))
+
+-- what follows in a list counts only where all before it do
+prefix_len-front : (xs ys : List ℕ) → prefix_len is_blank xs ≡ min (prefix_len is_blank (xs ++ ys)) (length xs)
+prefix_len-front xs ys =
+    let l = prefix_len-le-length is_blank xs in
+    ⊎_elim (λ e. omega (arith, prefix_len-append is_blank xs ys ∙ cond-true (eqb (prefix_len is_blank xs) (length xs)) _ _ (eq-eqb _ _ e)))
+    (λ ne. omega (arith, prefix_len-append is_blank xs ys ∙ cond-false (eqb (prefix_len is_blank xs) (length xs)) _ _ (ne_eqb _ _ ne)))
+    (cases_eq (prefix_len is_blank xs) (length xs))
+
+-- so what is trimmed at both ends is the text
+pub trimmed_text : (s m t : List ℕ) → m ≡ drop (length s - length m) s → length s ≡ spaces s + length m → t ≡ take (length t) m → length m ≡ suffix_len is_blank m + length t → t ≡ text_of s
+trimmed_text s m t cut front kept back =
+    let n = spaces s in
+    let rest : m ≡ drop n s = cut ∙ ap (λ k. drop k s) {y = n} (omega arith) in
+    let whole : s ≡ take n s ++ m = sym (take-append-drop n s) ∙ ap (λ es. take n s ++ es) (sym rest) in
+    let less : suffix_len is_blank m ≡ min (suffix_len is_blank s) (length m) =
+    prefix_len-front (reverse m) (reverse (take n s)) ∙ omega (arith, ap (prefix_len is_blank) (ap reverse whole ∙ reverse-append (take n s) m), length-reverse m) in
+    kept ∙ ap (λ k. take k m) {y = text_end s - n} (omega arith) ∙ ap (take (text_end s - n)) rest
