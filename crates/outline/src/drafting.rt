@@ -1,6 +1,6 @@
 //! Adding lines to a draft, and making the outline of it.
-ghost use Rattle.std.specs.Prelude.{◌≡◌, ◌<◌, ◌≤◌, [], IfOk, vec_len};
-ghost use Rattle.outline.specs.Drafts.{Added, Finished, Longer, depths_in, judged};
+ghost use Rattle.std.specs.Prelude.{◌≡◌, ◌<◌, ◌≤◌, [], IfOk, MatchResult, vec_len};
+ghost use Rattle.outline.specs.Drafts.{Added, Denied, Finished, Grown, Longer, depths_in, judged};
 ghost use Rattle.outline.specs.Nesting.{most_after};
 
 use crate::building::{leaves, nest};
@@ -37,13 +37,9 @@ impl Draft {
     fn judge(&self, line: &str) -> Result<Option<usize>, Cause>
         ensures { result ≡ judged self.now line.now }
     {
-        let Some(depth) = depth(line, self.most())? else {
-            return Ok(None);
-        };
-        if self.items.len() < ENTRIES {
-            Ok(Some(depth))
-        } else {
-            Err(Cause::Full)
+        match depth(line, self.most())? {
+            Some(_) if self.items.len() >= ENTRIES => Err(Cause::Full),
+            found => Ok(found),
         }
     }
 
@@ -55,23 +51,20 @@ impl Draft {
         ensures { Added self line.now result }
     {
         let number = self.lines.saturating_add(1);
-        let found = match self.judge(line) {
-            Ok(found) => found,
-            Err(cause) => return Err(OutlineFault {
-                line: number,
-                cause,
-            }),
-        };
         self.lines = number;
-        let Some(depth) = found else {
-            return Ok(self);
-        };
-        match self.push(depth, text(line)) {
-            Ok(draft) => Ok(draft),
-            Err(_) => Err(OutlineFault {
-                line: number,
-                cause: Cause::Memory,
-            }),
+        self.grow(line).map_err(|cause| OutlineFault {
+            line: number,
+            cause,
+        })
+    }
+
+    // Adds the entry of a line, if it has text.
+    fn grow(self, line: &str) -> Result<Draft, Cause>
+        ensures { MatchResult result (λ d. Grown (judged self line.now) self line.now d × (d.lines ≡ self.lines)) (λ cause. Denied (judged self line.now) cause) }
+    {
+        match self.judge(line)? {
+            Some(depth) => Ok(self.push(depth, text(line))?),
+            None => Ok(self),
         }
     }
 

@@ -1,7 +1,9 @@
 //! Why a line of an outline is refused.
 ghost use Rattle.outline.specs.Causes.{cause_text, fault_text};
-ghost use Rattle.std.specs.Prelude.{Some};
+ghost use Rattle.outline.specs.declared.faults.Cause.TheVariants.{Memory};
+ghost use Rattle.std.specs.Prelude.{◌≡◌, Some};
 
+use std::alloc::AllocError;
 use std::error::Error;
 use std::fmt;
 
@@ -26,7 +28,7 @@ impl fmt::Display for Cause {
     ghost output = { λ c. Some (cause_text c) };
 
     fn fmt<W: fmt::Write>(&self, f: &mut fmt::Formatter<W>) -> fmt::Result {
-        match *self {
+        match self {
             Cause::Tab => f.write_str("expected an indent of spaces, found a tab"),
             Cause::Odd { spaces } => write!(
                 f,
@@ -40,6 +42,14 @@ impl fmt::Display for Cause {
             Cause::Full => f.write_str("expected at most 4096 entries, found one more"),
             Cause::Memory => f.write_str("expected memory for the entry, found none"),
         }
+    }
+}
+
+impl From<AllocError> for Cause {
+    ghost from_gives = { λ _ cause. cause ≡ Memory };
+
+    fn from(_: AllocError) -> Cause {
+        Cause::Memory
     }
 }
 

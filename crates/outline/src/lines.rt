@@ -28,20 +28,21 @@ pub fn depth(line: &str, most: usize) -> Result<Option<usize>, Cause>
 {
     let text = text(line);
     let spaces = indent(line);
+    let depth = spaces / 2;
     if text.is_empty() {
         Ok(None)
     } else if text.starts_with('\t') {
         Err(Cause::Tab)
     } else if spaces % 2 == 1 {
         Err(Cause::Odd { spaces })
-    } else if spaces / 2 > most {
+    } else if depth > most {
         Err(Cause::Skip {
             most: most * 2,
             spaces,
         })
-    } else if spaces / 2 >= LEVELS {
+    } else if depth >= LEVELS {
         Err(Cause::Deep)
     } else {
-        Ok(Some(spaces / 2))
+        Ok(Some(depth))
     }
 }

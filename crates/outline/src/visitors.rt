@@ -43,18 +43,17 @@ impl<'a> Visitor<Outline> for Record<'a> {
     ghost accepts = { λ s t p. room_for s p };
 
     fn visit(&mut self, _tree: &Outline, path: &[Entry]) -> bool {
-        if path.is_empty() {
+        let Some(entry) = path.last() else {
             return true;
-        }
-        let at = self.len;
-        if at >= self.lines.len() {
+        };
+        if self.len >= self.lines.len() {
             return false;
         }
-        self.lines[at] = Shown {
-            entry: path[path.len() - 1],
+        self.lines[self.len] = Shown {
+            entry: *entry,
             names: path.len(),
         };
-        self.len = at + 1;
+        self.len += 1;
         true
     }
 }
@@ -79,11 +78,6 @@ impl<'w> Visitor<Outline> for Seek<'w> {
 fn ends_at(tree: &Outline, path: &[Entry], word: &str) -> bool
     ensures { result ≡ ends_at tree.now path.now word.now }
 {
-    if path.is_empty() {
-        return false;
-    }
-    match tree.text(path[path.len() - 1]) {
-        Ok(text) => text == word,
-        Err(_) => false,
-    }
+    path.last()
+        .is_some_and(|entry| tree.text(*entry).is_ok_and(|text| text == word))
 }
