@@ -20,12 +20,10 @@ module _ {S N : Type 0} (next : S → List N → S) (accepts : S → List N → 
       go false e = refl
 
   -- The name c at i of some names was shown behind the path q, which led to end; the next are shown behind q'.
-  pub each_step : (children : N → List N) (names : List N) (q q' : List N) (h i : ℕ) (d c : N) (s : S) (all end : S × Option (List N)) → i < length names → c ≡ get_or names i d → q' ≡ q
-      → all ≡ run next accepts s (flat_map (paths children h q) (drop i names)) → run next accepts s (paths children h q c) ≡ end
-      → all ≡ go_on end (flat_map (paths children h q') (drop (i + 1) names))
-  each_step children names q q' h i d c s all end within is same so_far ran =
-      so_far
-      ∙ ap (run next accepts s) (at_drop_more (flat_map (paths children h q)) names i d within ∙ ap (λ x. paths children h q x ++ flat_map (paths children h q) (drop (i + 1) names)) (sym is))
+  pub each_step : (children : N → List N) (names : List N) (q q' : List N) (h i : ℕ) (d c : N) (s : S) {end : S × Option (List N)} → i < length names → c ≡ get_or names i d → q' ≡ q → run next accepts s (paths children h q c) ≡ end
+      → run next accepts s (flat_map (paths children h q) (drop i names)) ≡ go_on end (flat_map (paths children h q') (drop (i + 1) names))
+  each_step children names q q' h i d c s {end} within is same ran =
+      ap (run next accepts s) (at_drop_more (flat_map (paths children h q)) names i d within ∙ ap (λ x. paths children h q x ++ flat_map (paths children h q) (drop (i + 1) names)) (sym is))
       ∙ run-append s (paths children h q c) (flat_map (paths children h q) (drop (i + 1) names))
       ∙ ap (λ x. go_on x (flat_map (paths children h q) (drop (i + 1) names))) ran
       ∙ ap (λ x. go_on end (flat_map (paths children h x) (drop (i + 1) names))) (sym same)

@@ -25,7 +25,7 @@ returns-in-Stopped-clause-law g c =
     let known = subst (λ m. g.T.Tree.known tree m ≡ true) (sym c.n-item.is) (c.loop-n.invariant.known c.loop-n.n-index n c.loop-n-test.true) in (
       passed _ c.admit_each.ensures c.in_ok-admit_each.was,
       walked_each law (λ s q. g.V.Visitor.next s tree q) (λ s q. g.V.Visitor.accepts s tree q) c.args.visitor.now c.show.new.visitor Stopped (names_of c.show.new.path) roots c.loop-n.invariant.known
-          (each_step (λ s q. g.V.Visitor.next s tree q) (λ s q. g.V.Visitor.accepts s tree q) (g.T.Tree.children tree) roots (names_of c.loop-n.path) (names_of c.loop-n.path) 64 c.loop-n.n-index n n c.loop-n.visitor _ _ c.loop-n-test.true c.n-item.is refl c.loop-n.invariant.so_far (c.in-Stopped.ensures.ran 64 (law.high n known)))
+          (c.loop-n.invariant.so_far ∙ each_step (λ s q. g.V.Visitor.next s tree q) (λ s q. g.V.Visitor.accepts s tree q) (g.T.Tree.children tree) roots (names_of c.loop-n.path) (names_of c.loop-n.path) 64 c.loop-n.n-index n n c.loop-n.visitor c.loop-n-test.true c.n-item.is refl (c.in-Stopped.ensures.ran 64 (law.high n known)))
           (λ e. cc),
     )
 
@@ -40,7 +40,7 @@ loop-n-preserved g c =
       low = search rules;
       empty = c.in_default.ensures.back refl ∙ c.loop-n.invariant.empty;
       memory = search rules;
-      so_far = each_step (λ s q. g.V.Visitor.next s tree q) (λ s q. g.V.Visitor.accepts s tree q) (g.T.Tree.children tree) c.args.roots.now (names_of c.loop-n.path) (names_of c.show.new.path) 64 c.loop-n.n-index n n c.loop-n.visitor _ _ c.loop-n-test.true c.n-item.is (c.in_default.ensures.back refl) c.loop-n.invariant.so_far (c.in_default.ensures.ran 64 (law.high n known));
+      so_far = c.loop-n.invariant.so_far ∙ each_step (λ s q. g.V.Visitor.next s tree q) (λ s q. g.V.Visitor.accepts s tree q) (g.T.Tree.children tree) c.args.roots.now (names_of c.loop-n.path) (names_of c.show.new.path) 64 c.loop-n.n-index n n c.loop-n.visitor c.loop-n-test.true c.n-item.is (c.in_default.ensures.back refl) (c.in_default.ensures.ran 64 (law.high n known));
     }
 
 pub returns-clause-law : goal.returns-clause-law
