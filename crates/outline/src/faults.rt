@@ -49,7 +49,7 @@ impl From<AllocError> for Cause {
     ghost from_gives = { λ _ cause. cause ≡ Memory };
 
     fn from(_: AllocError) -> Cause {
-        Cause::Memory
+        Self::Memory
     }
 }
 

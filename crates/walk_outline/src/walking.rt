@@ -2,21 +2,21 @@
 use crate::printing::print_path;
 use anyhow::anyhow;
 use outline::entries::Entry;
+use outline::lines::LEVELS;
 use outline::outlines::Outline;
 use outline::visitors::{Record, Seek, Shown};
 use std::alloc::Global;
+use tree::forests::walk_each;
 use tree::paths::check_memory;
 use tree::stacks::PathStack;
 use tree::visitors::Visitor;
-use tree::walks::{Outcome, walk};
+use tree::walks::Outcome;
 
 // Memory for a path through every level.
 fn names(heap: Global) -> anyhow::Result<Vec<Entry>> {
-    let names = vec![in heap; Entry { number: 0 }; 64]?;
-    match check_memory(names.as_slice()) {
-        Ok(()) => Ok(names),
-        Err(_) => Err(anyhow!("the memory for the path is over its limit")),
-    }
+    let names = vec![in heap; Entry { number: 0 }; LEVELS]?;
+    check_memory(&names).map_err(|_| anyhow!("the memory for the path is over its limit"))?;
+    Ok(names)
 }
 
 // Walks from each outermost entry in turn, up to the first no.
@@ -25,14 +25,8 @@ fn walk_roots<V: Visitor<Outline>>(
     path: &mut PathStack<'_, Entry>,
     visitor: &mut V,
 ) -> anyhow::Result<Outcome> {
-    for root in outline.roots() {
-        match walk(outline, *root, path, visitor) {
-            Ok(Outcome::Finished) => {}
-            Ok(Outcome::Stopped) => return Ok(Outcome::Stopped),
-            Err(_) => return Err(anyhow!("the outline is too high for the path")),
-        }
-    }
-    Ok(Outcome::Finished)
+    walk_each(outline, outline.roots(), path, visitor)
+        .map_err(|_| anyhow!("the outline is too high for the path"))
 }
 
 // Prints the path of each line recorded: a line's path is the start of the path before it, and its own entry.
