@@ -1,5 +1,5 @@
 -- What the branch at an entry's number tells of it. Assumes nothing.
-use Rattle.std.proofs.Common.{◌≡◌, ◌<◌, [], length, get_or, true, false, ltb, Some, None, Bor, Option, vec_items, string_bytes, sym, refl, ap, ◌∙◌, arith}
+use Rattle.std.proofs.Common.{◌≡◌, ◌<◌, [], length, get_or, Bool, true, false, ltb, Some, None, Bor, List, Option, Result, vec_items, string_bytes, sym, refl, ap, ◌∙◌, arith}
 use Rattle.std.specs.Prelude.{MatchResult}
 use Rattle.std.specs.Option.{ok_or}
 use Rattle.std.specs.Slice.{IsItemAt}
@@ -7,10 +7,14 @@ use Rattle.std.proofs.lemmas.List.{get_or-map, length-map}
 use Rattle.outline.specs.Trees.{IsBranch, known_in, missing_in}
 use Rattle.outline.specs.Items.{items_of}
 use Rattle.outline.specs.declared.entries.Entry.{Entry}
+use Rattle.outline.specs.declared.entries.NoEntry.{NoEntry}
 use Rattle.outline.specs.declared.items.Branch.{Branch}
 use Rattle.outline.specs.declared.outlines.Outline.{Outline}
 
 module _ (o : Outline) (e : Entry) where
+  known : {b : Bool} → b ≡ ltb e.number (length (vec_items o.branches)) → known_in o e ≡ b
+  known is = ap (ltb e.number) o.branches.ok.0 ∙ sym is
+
   is_branch : (b : Branch) → e.number < length (vec_items o.branches) → b ≡ get_or (vec_items o.branches) e.number b → IsBranch o e b
   is_branch b l is =
       let bs = vec_items o.branches in
@@ -21,7 +25,7 @@ module _ (o : Outline) (e : Entry) where
         children = ap (λ b. vec_items b.children) is ∙ sym (get_or-map (λ b. vec_items b.children) bs e.number b [] l) ∙ o.parented e.number (omega (arith, length-map bs (λ b. vec_items b.children)));
       }
 
-  pub branch_told : (r : Option (Bor Branch)) → IsItemAt (vec_items o.branches) e.number r
-      → MatchResult (ok_or r (record { entry = e })) (λ b. (known_in o e ≡ true) × IsBranch o e b.now) (λ f. (known_in o e ≡ false) × (f ≡ missing_in o e))
-  branch_told None at = (ap (ltb e.number) o.branches.ok.0 ∙ sym at.0, refl)
-  branch_told (Some b) at = (ap (ltb e.number) o.branches.ok.0 ∙ sym at.0, is_branch b.now at.3.0 at.1)
+  pub branch_told : (r : Option (Bor Branch)) (result : Result (Bor Branch) NoEntry) (branches : List Branch) → result ≡ ok_or r (record { entry = e }) → branches ≡ vec_items o.branches → IsItemAt branches e.number r
+      → MatchResult result (λ b. (known_in o e ≡ true) × IsBranch o e b.now) (λ f. (known_in o e ≡ false) × (f ≡ missing_in o e))
+  branch_told None result branches is all at = rw is (known (rw all at at.0), refl)
+  branch_told (Some b) result branches is all at = rw is (known (rw all at at.0), is_branch b.now (rw all at at.3.0) (rw all at at.1))

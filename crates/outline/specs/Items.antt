@@ -12,9 +12,12 @@ depths_of items = map (λ i. i.depth) items
 abbrev pub texts_of : List Item → List (List ℕ)
 texts_of items = map (λ i. string_bytes i.text) items
 
--- of the entries in an outline: themselves, how high each is, and its children
+-- of the entries in an outline: themselves, how deep and how high each is, and its children
 abbrev pub items_of : List Branch → List Item
 items_of branches = map (λ b. b.item) branches
+
+abbrev pub branch_depths : List Branch → List ℕ
+branch_depths branches = depths_of (items_of branches)
 
 abbrev pub heights_of : List Branch → List ℕ
 heights_of branches = map (λ b. b.height) branches

@@ -1,6 +1,6 @@
 -- An outline as a tree: the entries that it has, how high each is and which children each has. Assumes nothing.
 use Rattle.std.specs.Prelude.{◌≡◌, ℕ, Bool, List, [], vec_items, vec_len, string_bytes, nat_lt, slice_index, slice_index_or}
-use Rattle.outline.specs.Items.{depths_of, heights_of, items_of, texts_of}
+use Rattle.outline.specs.Items.{branch_depths, heights_of, items_of, texts_of}
 use Rattle.outline.specs.Nesting.{children_of}
 use Rattle.outline.specs.declared.entries.Entry.{Entry}
 use Rattle.outline.specs.declared.entries.NoEntry.{NoEntry}
@@ -9,7 +9,7 @@ use Rattle.outline.specs.declared.outlines.Outline.{Outline}
 
 -- how deep each entry is
 abbrev pub depths_in : Outline → List ℕ
-depths_in o = depths_of (items_of (vec_items o.branches))
+depths_in o = branch_depths (vec_items o.branches)
 
 -- the text of an entry, by its bytes
 abbrev pub text_in : Outline → Entry → List ℕ

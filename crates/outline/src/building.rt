@@ -1,7 +1,7 @@
 //! Which entries are whose children, and how high each is: found from the last entry to the first, so that what is below
 //! an entry is known before it.
 ghost use Rattle.outline.specs.Building.{Nested};
-ghost use Rattle.outline.specs.Items.{depths_of, heights_of, items_of, lists_of};
+ghost use Rattle.outline.specs.Items.{branch_depths, depths_of, heights_of, items_of, lists_of};
 ghost use Rattle.outline.specs.Nesting.{Stepwise, Within, highest};
 ghost use Rattle.std.specs.Prelude.{◌≡◌, [], IfOk, replicate, reverse, slice_index};
 
@@ -62,8 +62,8 @@ fn highest(branches: &[Branch], entries: &[Entry]) -> usize
 
 // Gives each branch its children and its height, and answers with the outermost entries.
 pub(crate) fn nest(heap: Global, branches: &mut [Branch]) -> Result<Vec<Entry>, AllocError>
-    requires stepwise { Stepwise (depths_of (items_of branches.old)) }
-    requires within { Within (depths_of (items_of branches.old)) }
+    requires stepwise { Stepwise (branch_depths branches.old) }
+    requires within { Within (branch_depths branches.old) }
     ensures { IfOk result (λ roots. Nested branches.old branches.new roots.items) }
 {
     // By level, the entries that have no parent yet, the last first.

@@ -1,6 +1,6 @@
 //! The outline: its entries by number, each with its children.
 ghost use Rattle.std.specs.Prelude.{◌≡◌, ◌≤◌, vec_len};
-ghost use Rattle.outline.specs.Items.{children_lists, depths_of, heights_of, items_of};
+ghost use Rattle.outline.specs.Items.{branch_depths, children_lists, depths_of, heights_of, items_of};
 ghost use Rattle.outline.specs.Nesting.{Measured, Outermost, Parented, Shallow, Stepwise, roots_of};
 
 use crate::entries::Entry;
@@ -14,10 +14,10 @@ pub struct Outline {
     // Those of the outermost level, in the order of their lines.
     pub(crate) roots: Vec<Entry>,
     ghost few: { vec_len branches ≤ 4096 },
-    ghost outermost: { Outermost (depths_of (items_of branches.items)) },
-    ghost stepwise: { Stepwise (depths_of (items_of branches.items)) },
-    ghost parented: { Parented (depths_of (items_of branches.items)) (children_lists branches.items) },
-    ghost measured: { Measured (depths_of (items_of branches.items)) (heights_of branches.items) },
-    ghost shallow: { Shallow (depths_of (items_of branches.items)) (heights_of branches.items) },
-    ghost rooted: { roots.items ≡ roots_of (depths_of (items_of branches.items)) },
+    ghost outermost: { Outermost (branch_depths branches.items) },
+    ghost stepwise: { Stepwise (branch_depths branches.items) },
+    ghost parented: { Parented (branch_depths branches.items) (children_lists branches.items) },
+    ghost measured: { Measured (branch_depths branches.items) (heights_of branches.items) },
+    ghost shallow: { Shallow (branch_depths branches.items) (heights_of branches.items) },
+    ghost rooted: { roots.items ≡ roots_of (branch_depths branches.items) },
 }

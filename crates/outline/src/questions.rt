@@ -28,8 +28,7 @@ impl Outline {
     pub fn text(&self, e: Entry) -> Result<&str, NoEntry>
         ensures { MatchResult result (λ t. (known_in self.now e ≡ true) × (t.now ≡ text_in self.now e)) (λ f. (known_in self.now e ≡ false) × (f ≡ missing_in self.now e)) }
     {
-        let branch = self.branch(e)?;
-        Ok(branch.item.text.as_str())
+        Ok(self.branch(e)?.item.text.as_str())
     }
 
     // The branch of an entry.
@@ -60,17 +59,18 @@ impl Tree for Outline {
     }
 
     fn height(&self, e: Entry) -> Result<usize, NoEntry> {
-        let branch = self.branch(e)?;
-        Ok(branch.height)
+        Ok(self.branch(e)?.height)
     }
 
     fn child_count(&self, e: Entry) -> Result<usize, NoEntry> {
-        let branch = self.branch(e)?;
-        Ok(branch.children.len())
+        Ok(self.branch(e)?.children.len())
     }
 
     fn child(&self, e: Entry, i: usize) -> Result<Entry, NoEntry> {
-        let branch = self.branch(e)?;
-        branch.children.get(i).copied().ok_or(NoEntry { entry: e })
+        self.branch(e)?
+            .children
+            .get(i)
+            .copied()
+            .ok_or(NoEntry { entry: e })
     }
 }

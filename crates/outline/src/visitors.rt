@@ -33,7 +33,7 @@ impl<'a> Record<'a> {
         ensures { result.now ≡ recorded self.now }
     {
         let len = self.len.min(self.lines.len());
-        &self.lines[0..len]
+        &self.lines[..len]
     }
 }
 

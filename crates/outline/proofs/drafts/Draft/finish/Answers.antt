@@ -18,5 +18,5 @@ invariant_of-result c =
       parented = rw (is, n.items) n.parented;
       measured = rw (is, n.items) n.measured;
       shallow = rw (is, n.items) n.shallow;
-      rooted = rw (is, n.items) n.rooted;
+      rooted = rw (is, n.items) cc;
     }
