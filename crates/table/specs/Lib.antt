@@ -8,3 +8,4 @@ pub mod Tests
 pub mod Reads
 pub mod Puts
 pub mod Told
+pub mod Seen

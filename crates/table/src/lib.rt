@@ -10,7 +10,7 @@ mod measures;
 pub mod memory;
 mod puts;
 pub mod reads;
-mod seen;
+pub mod seen;
 mod sizes;
 pub mod tables;
 pub mod trees;

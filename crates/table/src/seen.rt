@@ -1,33 +1,35 @@
-//! Which places were named so far: a mark for each place that a table may have.
-ghost use Rattle.std.specs.Prelude.{◌≡◌, ℕ, ◌<◌, true, false, ◌≢◌, slice_index_or};
+//! A set of places: a mark for each place that a table may have.
+ghost use Rattle.std.specs.Prelude.{◌≡◌, ℕ, ◌<◌, true, false, ◌≢◌};
+ghost use Rattle.table.specs.Seen.{marked};
 
-/// A mark for each of the 4,096 places.
+/// A set of the places of a table's nodes, of which there are at most 4,096, in memory of its own.
 #[derive(Drop)]
-pub(crate) struct Seen {
+pub struct Seen {
     marks: [bool; 4096],
 }
 
 impl Seen {
-    // No place yet.
-    pub(crate) fn none() -> Seen
-        ensures { (j : ℕ) → j < 4096 → slice_index_or result.marks j false ≡ false }
+    /// No place yet.
+    pub fn none() -> Seen
+        ensures { (j : ℕ) → marked result j ≡ false }
     {
         Seen {
             marks: [false; 4096],
         }
     }
 
-    pub(crate) fn has(&self, place: usize) -> bool
-        requires { place < 4096 }
-        ensures { result ≡ slice_index_or self.now.marks place false }
+    /// Whether a place was marked; no number from 4,096 on is.
+    pub fn has(&self, place: usize) -> bool
+        ensures { result ≡ marked self.now place }
     {
-        self.marks[place]
+        self.marks.get(place).copied().unwrap_or(false)
     }
 
-    pub(crate) fn mark(&mut self, place: usize)
+    /// Marks a place, and leaves every other as it was.
+    pub fn mark(&mut self, place: usize)
         requires { place < 4096 }
-        ensures here { slice_index_or self.new.marks place false ≡ true }
-        ensures others { (j : ℕ) → (j ≢ place) → slice_index_or self.new.marks j false ≡ slice_index_or self.old.marks j false }
+        ensures here { marked self.new place ≡ true }
+        ensures others { (j : ℕ) → (j ≢ place) → marked self.new j ≡ marked self.old j }
     {
         self.marks[place] = true;
     }
