@@ -1,14 +1,16 @@
 -- Parts and children of nodes whose links name the same. Assumes nothing.
-use Rattle.std.proofs.Common.{◌≡◌, ℕ, zero, suc, ◌+◌, ◌-◌, ◌/◌, ◌%◌, ◌<◌, ◌≤◌, max, List, [], ◌∷◌, ◌++◌, length, get_or, sym, refl, ap, ◌∙◌, ap₂, ⊎_elim, arith}
+use Rattle.std.proofs.Common.{◌≡◌, ℕ, zero, suc, ◌+◌, ◌-◌, ◌/◌, ◌%◌, ◌<◌, ◌≤◌, max, List, [], ◌∷◌, ◌++◌, length, get_or, drop, sym, refl, ap, ◌∙◌, ap₂, ⊎_elim, arith}
 use Rattle.std.proofs.lemmas.Bool.{cases_lt}
-use Rattle.std.proofs.lemmas.List.{same_lists, get_or_default}
+use Rattle.std.proofs.lemmas.List.{same_lists, get_or_default, get_or-drop}
 use Rattle.kind.specs.Shapes.{shape_of}
 use Rattle.node.specs.declared.records.Details.{Details}
+use Rattle.node.specs.declared.records.Link.{Link}
+use Rattle.node.specs.declared.records.Node.{Node}
 use Rattle.node.specs.declared.records.Parts.{Parts}
 use Rattle.kind.specs.declared.shapes.Blocks.{Blocks}
 use Rattle.kind.specs.declared.shapes.Blocks.TheVariants as blocks
 use Rattle.table.specs.Finds.{run_from, run_count, direct, child_count}
-use Rattle.table.specs.State.{State, node_at, named, kids, references, referred, default_of, walked, arms_from, highest, all_lines}
+use Rattle.table.specs.State.{State, node_at, links_of, blank_link, children, named, kids, references, referred, default_of, walked, arms_from, highest, all_lines}
 use Rattle.table.proofs.Found.{length_referred, length_walked, getD_walked_direct, getD_walked_arms}
 
 pub named_agrees : (f g : ℕ → ℕ) (from count : ℕ) → ((k : ℕ) → from ≤ k → k < from + count → f k ≡ g k) → named f from count ≡ named g from count
@@ -74,3 +76,11 @@ pub highest_above : (s : State) (xs : List ℕ) (i : ℕ) → i < length xs → 
 highest_above s [] i lt = absurd (omega arith)
 highest_above s (x ∷ xs) zero lt = omega arith
 highest_above s (x ∷ xs) (suc i) lt = omega (arith, highest_above s xs i (omega arith))
+
+-- the family of a node in the table has its children
+pub family_children : (s : State) (n : ℕ) (node : Node) (d : Details) (p : Parts) (ls : List Link) → d ≡ node.details → p ≡ node.parts → ls ≡ drop node.parts.start s.links → node ≡ node_at s n
+    → walked (λ k. (get_or ls k blank_link).place) d p ≡ children s n
+family_children s n node d p ls dis pis lis is =
+    (λ i. walked (λ k. (get_or (lis i) k blank_link).place) (dis i) (pis i))
+    ∙ ap (λ f. walked f node.details node.parts) (λ i k. (get_or-drop node.parts.start s.links k blank_link i).place)
+    ∙ ap (λ x. walked (links_of s x) x.details x.parts) is

@@ -1,12 +1,17 @@
 -- The numbers kept of a node are those of its lines of descent. Assumes nothing.
-use Rattle.std.proofs.Common.{◌≡◌, ℕ, zero, suc, ◌<◌, ◌≤◌, ◌⊎◌, List, [], ◌∷◌, map, length, get_or, sym, refl, ap, ◌∙◌, subst, inl, inr, arith}
+use Rattle.std.proofs.Common.{◌≡◌, ℕ, zero, suc, ◌<◌, ◌≤◌, Bool, true, false, Result, ◌⊎◌, List, [], ◌∷◌, map, length, get_or, sym, refl, ap, ◌∙◌, subst, inl, inr, arith}
 use Rattle.std.proofs.lemmas.List.{length-append, length-map, get_or_default}
 use Rattle.std.proofs.lemmas.Bool.{cases_lt, ltb-true, lt-ltb}
 use Rattle.tree.proofs.Listed.{lines, branches, listed}
 use Rattle.tree.specs.Lines.{Follow, Numbers, TreeLaw, child_of}
 use Rattle.table.specs.Facts.{Sound, known}
 use Rattle.table.specs.State.{State, node_at, children, highest, all_lines}
-use Rattle.table.specs.Told.{Longest}
+use Rattle.table.specs.Told.{Longest, IsLines, IsHeight}
+use Rattle.table.specs.Reads.{table_state}
+use Rattle.table.specs.declared.tables.Table.{Table}
+use Rattle.tree.specs.Answers.{told}
+use Rattle.node.specs.declared.faults.TableFault.{TableFault}
+use Rattle.node.specs.declared.faults.TableFault.TheVariants.{Missing}
 
 length_branches : (s : State) (f : ℕ → List (List ℕ)) (i : ℕ) (cs : List ℕ) → ((k : ℕ) → k < length cs → length (f (get_or cs k 0)) ≡ (node_at s (get_or cs k 0)).lines) → length (branches f i cs) ≡ all_lines s cs
 length_branches s f i [] each = refl
@@ -73,3 +78,44 @@ module _ (s : State) (sound : Sound s) where
 
   pub longest : (n : ℕ) → n < s.used → Longest s n (node_at s n).height
   longest n lt = record { most = bounded 64 n lt (sound.heights_fit n lt); reached = reach 64 n lt (sound.heights_fit n lt) }
+
+-- all that always holds of a table, as one fact
+pub table_sound : (t : Table) → Sound (table_state t)
+table_sound t = record {
+  nodes_fit = t.nodes_fit;
+  links_fit = t.links_fit;
+  runs_fit = t.runs_fit;
+  kids_known = t.kids_known;
+  kids_lower = t.kids_lower;
+  kids_under = t.kids_under;
+  kids_once = t.kids_once;
+  up_known = t.up_known;
+  up_holds = t.up_holds;
+  kids_sorted = t.kids_sorted;
+  arms_there = t.arms_there;
+  heights = t.heights;
+  heights_fit = t.heights_fit;
+  lines = t.lines;
+  lines_fit = t.lines_fit;
+  walked_known = t.walked_known;
+  walked_lower = t.walked_lower;
+}
+
+-- what a table tells of a node is so
+module _ (t : Table) (n : ℕ) (r : Result ℕ TableFault) where
+  abbrev s : State
+  s = table_state t
+
+  pub lines_told : r ≡ told (known s n) (node_at s n).lines (Missing n) → IsLines s n r
+  lines_told is = subst (IsLines s n) (sym is) (cases (known s n) refl)
+    where
+      cases : (b : Bool) → known s n ≡ b → IsLines s n (told b (node_at s n).lines (Missing n))
+      cases true k = numbered s (table_sound t) n (ltb-true n s.used k)
+      cases false k = tt
+
+  pub height_told : r ≡ told (known s n) (node_at s n).height (Missing n) → IsHeight s n r
+  height_told is = subst (IsHeight s n) (sym is) (cases (known s n) refl)
+    where
+      cases : (b : Bool) → known s n ≡ b → IsHeight s n (told b (node_at s n).height (Missing n))
+      cases true k = longest s (table_sound t) n (ltb-true n s.used k)
+      cases false k = tt

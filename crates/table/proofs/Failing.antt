@@ -1,7 +1,8 @@
 -- The first place that fails a test, one place on. Assumes nothing.
-use Rattle.std.proofs.Common.{◌≡◌, ℕ, zero, suc, ◌+◌, ◌<◌, ◌≤◌, Bool, true, false, cond, ◌⊎◌, List, [], ◌∷◌, ◌++◌, length, get_or, take, drop, Some, None, sym, refl, ap, ◌∙◌, inl, inr, ⊎_elim, arith}
+use Rattle.std.proofs.Common.{◌≡◌, ℕ, zero, suc, ◌+◌, ◌<◌, ◌≤◌, Bool, true, false, cond, not, ◌⊎◌, List, [], ◌∷◌, ◌++◌, length, get_or, take, drop, Some, None, sym, refl, ap, ◌∙◌, inl, inr, ⊎_elim, arith}
 use Rattle.std.proofs.lemmas.List.{take_more, at_drop_more, at_drop_all, append-nil, append_assoc}
 use Rattle.std.proofs.lemmas.Bool.{cond-true, cond-false, cases_Bool, cases_eq, both_ways, and_from, not_from_false}
+use Rattle.std.specs.List.{find}
 use Rattle.table.specs.State.{has, distinct}
 use Rattle.table.specs.Tests.{first_failing}
 use Rattle.table.proofs.Has.{has_place, head_is, head_not}
@@ -18,6 +19,14 @@ module _ (test : List ℕ → ℕ → Bool) (places : List ℕ) (k : ℕ) (withi
 
   pub fails : test (take k places) (get_or places k 0) ≡ false → Some (get_or places k 0) ≡ first_failing test (take k places) (drop k places)
   fails no' = sym (step ∙ cond-false (test (take k places) (get_or places k 0)) _ _ no')
+
+-- where a test looks at no other place, the first that fails it is what a search finds
+pub find_failing : (test : ℕ → Bool) (done xs : List ℕ) → find (λ c. not (test c)) xs ≡ first_failing (λ done c. test c) done xs
+find_failing test done [] = refl
+find_failing test done (x ∷ xs) = ⊎_elim
+    (λ yes'. cond-false (not (test x)) _ _ (ap not yes') ∙ find_failing test (done ++ x ∷ []) xs ∙ sym (cond-true (test x) _ _ yes'))
+    (λ no'. cond-true (not (test x)) _ _ (ap not no') ∙ sym (cond-false (test x) _ _ no'))
+    (cases_Bool (test x))
 
 pub none_fails : (test : List ℕ → ℕ → Bool) (places : List ℕ) (k : ℕ) → length places ≤ k → None ≡ first_failing test (take k places) (drop k places)
 none_fails test places k past = sym (at_drop_all (first_failing test (take k places)) places k past)

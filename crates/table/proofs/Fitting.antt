@@ -22,16 +22,22 @@ use Rattle.node.specs.declared.faults.TableFault.TheVariants.{Full}
 use Rattle.kind.specs.declared.shapes.Shape.{Shape}
 use Rattle.kind.specs.declared.shapes.Extra.{Extra}
 use Rattle.kind.specs.declared.shapes.Extra.TheVariants as extra
-use Rattle.table.specs.Facts.{NodesFit}
 use Rattle.table.specs.Fresh.{Fresh, Ready}
-use Rattle.table.specs.Grows.{new_link}
+use Rattle.table.specs.Facts.{Sound}
+use Rattle.table.specs.Grows.{Grown, new_link}
 use Rattle.table.specs.Puts.{kid_list, parts_of, handed_in, due_before, due_known, due_range, due_text, due_fit, due_place, due_held, stored_due, or_else, unless, shared_of, due_room, due_size, put_refusal, height_of, lines_of, node_of}
-use Rattle.table.specs.State.{State, total, referred, default_of, references, has, distinct, node_at, up_number}
+use Rattle.table.specs.Reads.{table_state}
+use Rattle.table.specs.declared.offers.Offer.{Offer}
+use Rattle.table.specs.declared.tables.Table.{Table}
+use Rattle.table.specs.declared.memory.Memory.{Memory}
+use Rattle.table.specs.State.{State, state_of, kids, total, referred, default_of, references, has, distinct, node_at, up_number}
 use Rattle.table.specs.Tests.{in_place, is_free}
 use Rattle.table.proofs.Elements.{all_at}
 use Rattle.table.proofs.Failing.{apart_distinct}
 use Rattle.table.proofs.Found.{length_referred, getD_referred_left, getD_referred_right}
+use Rattle.table.proofs.Counted.{table_sound}
 use Rattle.table.proofs.Has.{has_place}
+use Rattle.table.proofs.Kept.{sound_grown}
 use Rattle.table.proofs.Passed.{unless_none, FitParts, fit_parts, or_none, known_passed, place_passed, held_passed, range_passed, text_passed, fit_passed}
 use Rattle.table.proofs.Pigeons.{pigeons}
 
@@ -113,7 +119,25 @@ not_due s text d places idents values none =
     let g = or_none (due_place s d places) (due_held s d places) f.1 in
     record { known = a.0; stored = b.0; range = c.0; texts = e.0; fit = f.0; placed = g.0; free = g.1 }
 
-module _ (s : State) (text : List ℕ) (d : Draft) (places : List ℕ) (idents : List RawIdent) (values : ℕ) (room : NodesFit s) (none : due_before s text d places idents values ≡ None) where
+module _ (t : Table) (o : Offer) (none : due_before (table_state t) t.text.now o.draft.now o.places.now o.idents.now o.values ≡ None) where
+  abbrev s : State
+  s = table_state t
+
+  abbrev text : List ℕ
+  text = t.text.now
+
+  abbrev d : Draft
+  d = o.draft.now
+
+  abbrev places : List ℕ
+  places = o.places.now
+
+  abbrev idents : List RawIdent
+  idents = o.idents.now
+
+  abbrev values : ℕ
+  values = o.values
+
   nd : NotDue s text d places idents values
   nd = not_due s text d places idents values none
 
@@ -139,7 +163,7 @@ module _ (s : State) (text : List ℕ) (d : Draft) (places : List ℕ) (idents :
   kids_free k lt = eqb-true _ 0 (not_twice k (omega (arith, listed))).0
 
   few : draft_kids d ≤ 4096
-  few = subst (λ n. n ≤ 4096) listed (pigeons 4096 (kid_list d places) kids_once (λ i h. let r = has_place (kid_list d places) i 0 h in omega (arith, r.2, kids_known r.0 (omega (arith, listed, r.1)), room)))
+  few = subst (λ n. n ≤ 4096) listed (pigeons 4096 (kid_list d places) kids_once (λ i h. let r = has_place (kid_list d places) i 0 h in omega (arith, r.2, kids_known r.0 (omega (arith, listed, r.1)), t.nodes_fit)))
 
   default_names : (a : ℕ) → d.default ≡ Some a → a < d.arms
   default_names = default_low (shape_of (kind_of d.kind)).extra d (length idents) parts_fitting.extra
@@ -171,10 +195,10 @@ module _ (s : State) (text : List ℕ) (d : Draft) (places : List ℕ) (idents :
   pub kids_placed : (k : ℕ) → k < draft_kids d → in_place s (parts_of d 0 0) (take k (kid_list d places)) (get_or (kid_list d places) k 0) ≡ true
   kids_placed k lt = place_passed s d places nd.placed k (omega (arith, listed))
 
-  pub details_kept : length text ≤ 65535 → (r : Option Details) → r ≡ cond (in_range d && runs_within 65535 d && small d) (Some (details_of d)) None → r ≡ Some (details_of d)
-  details_kept le r is =
+  pub details_kept : (r : Option Details) → r ≡ cond (in_range d && runs_within 65535 d && small d) (Some (details_of d)) None → r ≡ Some (details_of d)
+  details_kept r is =
       is ∙ cond-true (in_range d && runs_within 65535 d && small d) _ _
-      (and_from _ _ (and_from _ _ (range_passed d idents nd.range).0 (runs_more (length text) le d (text_passed (length text) d idents nd.texts).0)) is_small)
+      (and_from _ _ (and_from _ _ (range_passed d idents nd.range).0 (runs_more (length text) t.text_fits d (text_passed (length text) d idents nd.texts).0)) is_small)
 
   -- the links that a draft needs: one for each place handed in and each shared name
   abbrev shared : ℕ
@@ -186,12 +210,16 @@ module _ (s : State) (text : List ℕ) (d : Draft) (places : List ℕ) (idents :
   needed : (k : ℕ) → k ≡ shared → length places + k ≡ total (parts_of d 0 (length idents))
   needed k e = omega (arith, parts_fitting.counted)
 
-  pub room_is : (k : ℕ) → k ≡ shared → (r : Option TableFault)
-      → r ≡ unless (ltb s.used (min (length s.nodes) 4096) && leb (s.linked + (length places + k)) (min (length s.links) 8192)) (Full 0) → r ≡ due_room s d (length idents)
-  room_is k e r is = is ∙ ap (λ n. unless (ltb s.used (min (length s.nodes) 4096) && leb (s.linked + n) (min (length s.links) 8192)) (Full 0)) (needed k e)
+  pub room_is : (k : ℕ) → k ≡ shared
+      → unless (ltb s.used (min (length s.nodes) 4096) && leb (s.linked + (length places + k)) (min (length s.links) 8192)) (Full 0) ≡ due_room s d (length idents)
+  room_is k e = ap (λ n. unless (ltb s.used (min (length s.nodes) 4096) && leb (s.linked + n) (min (length s.links) 8192)) (Full 0)) (needed k e)
 
   pub refusal_is : due_size s d places ≡ None → put_refusal s text d places idents values ≡ due_room s d (length idents)
   refusal_is size = ap (λ o. or_else o (or_else (due_size s d places) (due_room s d (length idents)))) none ∙ ap (λ o. or_else o (due_room s d (length idents))) size
+
+  pub size_refused : (f : TableFault) → due_size s d places ≡ Some f → put_refusal s text d places idents values ≡ Some f
+  size_refused f is =
+      ap (λ x. or_else x (or_else (due_size s d places) (due_room s d (length idents)))) none ∙ ap (λ x. or_else x (due_room s d (length idents))) is
 
   -- what room there is, and what sizes are allowed
   pub room_there : due_room s d (length idents) ≡ None → (s.used < min (length s.nodes) 4096) × (s.linked + total (parts_of d 0 (length idents)) ≤ min (length s.links) 8192)
@@ -236,7 +264,7 @@ module _ (s : State) (text : List ℕ) (d : Draft) (places : List ℕ) (idents :
 
     pub small_places : (j : ℕ) → j < length places → get_or places j 0 < 65536
     small_places j lt = ⊎_elim
-        (λ less. omega (arith, ready.children j less, room))
+        (λ less. omega (arith, ready.children j less, t.nodes_fit))
         (λ more. let ref = below (j - draft_kids d) (omega (arith, parts_fitting.counted)) in
         omega (arith, subst (λ i. get_or places i 0 < d.arms) {x = draft_kids d + (j - draft_kids d)} {y = j} (omega arith) ref, few))
         (cases_lt j (draft_kids d))
@@ -244,5 +272,27 @@ module _ (s : State) (text : List ℕ) (d : Draft) (places : List ℕ) (idents :
   pub idents_range : all ident_in_range idents ≡ true
   idents_range = (range_passed d idents nd.range).1
 
-  pub idents_within : length text ≤ 65535 → all (ident_within 65535) idents ≡ true
-  idents_within le = idents_more (length text) le idents (text_passed (length text) d idents nd.texts).1
+  pub idents_within : all (ident_within 65535) idents ≡ true
+  idents_within = idents_more (length text) t.text_fits idents (text_passed (length text) d idents nd.texts).1
+
+-- a node that is accepted may be put, and what always holds of the table then holds of the memory
+module _ (t : Table) (o : Offer) (accepted : put_refusal (table_state t) t.text.now o.draft.now o.places.now o.idents.now o.values ≡ None) where
+  pub before : due_before (table_state t) t.text.now o.draft.now o.places.now o.idents.now o.values ≡ None
+  before = (or_none (due_before (table_state t) t.text.now o.draft.now o.places.now o.idents.now o.values) _ accepted).0
+
+  later : (due_size (table_state t) o.draft.now o.places.now ≡ None) × (due_room (table_state t) o.draft.now (length o.idents.now) ≡ None)
+  later = or_none (due_size (table_state t) o.draft.now o.places.now) _ (or_none (due_before (table_state t) t.text.now o.draft.now o.places.now o.idents.now o.values) _ accepted).1
+
+  pub room_left : (t.memory.used < min (length t.memory.nodes.now) 4096) × (t.memory.linked + total (parts_of o.draft.now 0 (length o.idents.now)) ≤ min (length t.memory.links.now) 8192)
+  room_left = room_there t o before later.1
+
+  pub places_small : (j : ℕ) → j < length o.places.now → get_or o.places.now j 0 < 65536
+  places_small = small_places t o before later.0 later.1
+
+  module _ (m : Memory) (node : Node) (is : node ≡ node_of (table_state t) o.draft.now o.places.now (length o.idents.now))
+      (grown : Grown (table_state t) (state_of m) node (take (kids node.parts) o.places.now) (new_link o.places.now o.idents.now) (total node.parts)) where
+    pub grown_put : Grown (table_state t) (state_of m) (node_of (table_state t) o.draft.now o.places.now (length o.idents.now)) (kid_list o.draft.now o.places.now) (new_link o.places.now o.idents.now) (total (parts_of o.draft.now 0 (length o.idents.now)))
+    grown_put = subst (λ n. Grown (table_state t) (state_of m) n (take (kids n.parts) o.places.now) (new_link o.places.now o.idents.now) (total n.parts)) is grown
+
+    pub sound_put : Sound (state_of m)
+    sound_put = sound_grown (table_state t) (state_of m) _ (kid_list o.draft.now o.places.now) (new_link o.places.now o.idents.now) _ (table_sound t) grown_put (fresh t o before later.0 later.1)

@@ -1,76 +1,69 @@
-//! Accepting a draft: the record of the node to be put, or the refusal that is due.
-ghost use Rattle.std.specs.Prelude.{◌≡◌, ◌+◌, ◌<◌, ◌≤◌, min, ◌&&◌, length, Some, None, MatchResult, nat_le, nat_lt};
+//! Accepting what a put is handed: the record of the node to be put, or the refusal that is due.
+ghost use Rattle.std.specs.Prelude.{◌≡◌, ◌+◌, ◌<◌, ◌≤◌, ◌&&◌, Some, None, MatchResult, length, min, nat_le, nat_lt};
+ghost use Rattle.draft.specs.Details.{details_of};
 ghost use Rattle.node.specs.declared.faults.TableFault.TheVariants.{Full};
-ghost use Rattle.table.specs.Facts.{Sound};
-ghost use Rattle.table.specs.Grows.{SameLoans};
-ghost use Rattle.table.specs.Puts.{Put, node_of, put_refusal, unless};
-ghost use Rattle.table.specs.State.{state_of};
+ghost use Rattle.table.specs.Fresh.{Ready};
+ghost use Rattle.table.specs.Puts.{due_size, height_of, lines_of, node_of, put_refusal, unless};
+ghost use Rattle.table.specs.Reads.{table_state};
+ghost use Rattle.tree.specs.Answers.{passed_unless};
 
-use crate::children::{kid_count, link_count};
-use crate::memory::Memory;
-use crate::sizes::{made, shared_count};
-use draft::drafts::{Draft, RawIdent};
+use crate::children::Family;
+use crate::measures::Measure;
+use crate::offers::Offer;
+use crate::sizes::{made, narrow, shared_count};
+use crate::tables::Table;
 use node::faults::TableFault;
-use node::records::Node;
+use node::records::{Details, Node};
 
-impl Memory<'_> {
-    // The refusal for want of room: so many places and so many shared names take a link each.
-    fn room_refusal(&self, places: usize, shared: usize) -> Option<TableFault>
-        ensures { result ≡ unless (nat_lt self.now.used (min (length self.now.nodes.now) 4096) && nat_le (self.now.linked + (places + shared)) (min (length self.now.links.now) 8192)) (Full 0) }
+impl Table<'_> {
+    // The height and the lines of a node to be put; fault 7 where they are too large.
+    fn sized(&self, offer: &Offer<'_>, details: &Details) -> Result<Measure, TableFault>
+        requires ready { Ready (table_state self.now) offer.now.draft.now offer.now.places.now }
+        requires details { details.now ≡ details_of offer.now.draft.now }
+        ensures { MatchResult result (λ m. (due_size (table_state self.now) offer.now.draft.now offer.now.places.now ≡ None) × (m.height ≡ height_of (table_state self.now) offer.now.draft.now offer.now.places.now) × (m.lines ≡ lines_of (table_state self.now) offer.now.draft.now offer.now.places.now)) (λ f. due_size (table_state self.now) offer.now.draft.now offer.now.places.now ≡ Some f) }
     {
-        let needed = self.linked as u128 + (places as u128 + shared as u128);
-        if self.used < self.nodes.len().min(4096) && needed <= self.links.len().min(8192) as u128 {
-            None
+        let draft = offer.draft;
+        if draft.values + draft.ranges > 32767 {
+            return Err(TableFault::Size(0));
+        }
+        let family = Family {
+            named: offer.places,
+            details,
+            parts: &narrow(draft, 0, 0),
+        };
+        let size = self.memory.measure(&family);
+        if size.fits() {
+            Ok(size)
         } else {
-            Some(TableFault::Full(0))
+            Err(TableFault::Size(0))
+        }
+    }
+
+    // Fault 8 where there is no room: so many places and so many shared names take a link each.
+    fn check_room(&self, places: usize, shared: usize) -> Result<(), TableFault>
+        ensures { result ≡ passed_unless (unless (nat_lt (table_state self.now).used (min (length (table_state self.now).nodes) 4096) && nat_le ((table_state self.now).linked + (places + shared)) (min (length (table_state self.now).links) 8192)) (Full 0)) }
+    {
+        let memory = &self.memory;
+        let needed = memory.linked as u128 + (places as u128 + shared as u128);
+        if memory.used < memory.nodes.len().min(4096)
+            && needed <= memory.links.len().min(8192) as u128
+        {
+            Ok(())
+        } else {
+            Err(TableFault::Full(0))
         }
     }
 
     // The record of a node to be put, or the refusal that is due.
-    fn accept(
-        &self,
-        text: &[u8],
-        draft: &Draft,
-        places: &[usize],
-        idents: &[RawIdent],
-        values: usize,
-    ) -> Result<Node, TableFault>
-        requires sound { Sound (state_of self.now) }
-        requires text { length text.now ≤ 65535 }
-        ensures { MatchResult result (λ n. (put_refusal (state_of self.now) text.now draft.now places.now idents.now values ≡ None) × (n ≡ node_of (state_of self.now) draft.now places.now (length idents.now))) (λ f. put_refusal (state_of self.now) text.now draft.now places.now idents.now values ≡ Some f) }
+    pub(crate) fn accept(&self, offer: &Offer<'_>) -> Result<Node, TableFault>
+        ensures { MatchResult result (λ n. (put_refusal (table_state self.now) self.now.text.now offer.now.draft.now offer.now.places.now offer.now.idents.now offer.now.values ≡ None) × (n ≡ node_of (table_state self.now) offer.now.draft.now offer.now.places.now (length offer.now.idents.now))) (λ f. put_refusal (table_state self.now) self.now.text.now offer.now.draft.now offer.now.places.now offer.now.idents.now offer.now.values ≡ Some f) }
     {
-        if let Some(fault) = self.refusal_before(text, draft, places, idents, values) {
-            return Err(fault);
-        }
+        self.check_before(offer)?;
+        let draft = offer.draft;
         let details = draft.details().unwrap();
-        let size = self.sized(draft, &details, places)?;
-        let shared = shared_count(details.kind.shape().extra, idents.len());
-        if let Some(fault) = self.room_refusal(places.len(), shared) {
-            return Err(fault);
-        }
-        Ok(made(draft, details, self.linked, shared, size))
-    }
-
-    // Puts a node at the first unused place, or refuses it and changes nothing.
-    pub(crate) fn put(
-        &mut self,
-        text: &[u8],
-        draft: &Draft,
-        places: &[usize],
-        idents: &[RawIdent],
-        values: usize,
-    ) -> Result<usize, TableFault>
-        requires sound { Sound (state_of self.old) }
-        requires text { length text.now ≤ 65535 }
-        ensures put { Put (state_of self.old) text.now draft.now places.now idents.now values result (state_of self.new) }
-        ensures sound { Sound (state_of self.new) }
-        ensures loans { SameLoans self.old self.new }
-    {
-        let node = self.accept(text, draft, places, idents, values)?;
-        let at = self.used;
-        let kids = kid_count(&node.parts);
-        let count = link_count(&node.parts);
-        self.grow(node, places, idents, kids, count);
-        Ok(at)
+        let size = self.sized(offer, &details)?;
+        let shared = shared_count(details.kind.shape().extra, offer.idents.len());
+        self.check_room(offer.places.len(), shared)?;
+        Ok(made(draft, details, self.memory.linked, shared, size))
     }
 }

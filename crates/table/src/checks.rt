@@ -1,114 +1,91 @@
-//! The tests of a put on the children that are handed in, and what they come to.
-ghost use Rattle.std.specs.Prelude.{◌≡◌, ℕ, ◌<◌, ◌&&◌, [], length, ◌==◌, nat_le, nat_lt, slice_index};
-ghost use Rattle.draft.specs.Fits.{same};
-ghost use Rattle.table.specs.Facts.{is_stmt, known};
-ghost use Rattle.table.specs.State.{node_at, state_of, up_number};
-ghost use Rattle.table.specs.Tests.{first_failing, is_free, is_known, not_held, sorted_at};
+//! The tests of a put: those on the children that are handed in, and all in the order of their numbers.
+ghost use Rattle.std.specs.Prelude.{◌≡◌, ◌<◌, None, length, not};
+ghost use Rattle.draft.specs.Fits.{handed};
+ghost use Rattle.std.specs.List.{find};
+ghost use Rattle.table.specs.Facts.{known};
+ghost use Rattle.table.specs.Puts.{due_before, due_held, due_known, due_place};
+ghost use Rattle.table.specs.Reads.{table_state};
+ghost use Rattle.table.specs.Tests.{is_free};
+ghost use Rattle.tree.specs.Answers.{passed_unless};
 
-use crate::memory::Memory;
+use crate::offers::Offer;
 use crate::seen::Seen;
-use kind::kinds::Kind;
+use crate::tables::Table;
+use node::faults::TableFault;
 use node::records::Up;
+use tree::trees::Tree;
 
-fn is_stmt(kind: Kind) -> bool
-    ensures { result ≡ is_stmt kind }
-{
-    match kind {
-        Kind::Stmt(_) => true,
-        Kind::Expr(_) => false,
-    }
-}
-
-// Whether statements stand at a number: they do from one number until another.
-fn takes_stmt(from: usize, until: usize, k: usize) -> bool
-    ensures { result ≡ nat_le from k && nat_lt k until }
-{
-    from <= k && k < until
-}
-
-fn no_parent(up: Up) -> bool
-    ensures { result ≡ (up_number up == 0) }
-{
-    match up {
-        Up::Nothing => true,
-        Up::Node(_) | Up::Script => false,
-    }
-}
-
-impl Memory<'_> {
-    // The first place that names no node.
-    pub(crate) fn first_unknown(&self, places: &[usize]) -> Option<usize>
-        ensures { result ≡ first_failing (is_known (state_of self.now)) [] places.now }
-    {
-        for k in 0..places.len() {
-            let place = places[k];
-            if !self.knows(place) {
-                return Some(place);
-            }
-        }
-        None
-    }
-
-    // The first place at which a statement stands for an expression, or the other way round.
-    pub(crate) fn first_misplaced(
-        &self,
-        from: usize,
-        until: usize,
-        places: &[usize],
-    ) -> Option<usize>
-        requires known { (k : ℕ) → k < length places.now → slice_index places.now k < length self.now.nodes.now }
-        ensures { result ≡ first_failing (sorted_at (state_of self.now) from until) [] places.now }
-    {
-        for k in 0..places.len() {
-            let place = places[k];
-            if !self.stands_well(place, from, until, k) {
-                return Some(place);
-            }
-        }
-        None
-    }
-
-    // The first place that has a parent, or was named before.
-    pub(crate) fn first_held(&self, places: &[usize]) -> Option<usize>
-        requires known { (k : ℕ) → k < length places.now → slice_index places.now k < length self.now.nodes.now }
-        requires few { (k : ℕ) → k < length places.now → slice_index places.now k < 4096 }
-        ensures { result ≡ first_failing (not_held (state_of self.now)) [] places.now }
-    {
-        let mut seen = Seen::none();
-        for k in 0..places.len() {
-            let place = places[k];
-            if !(self.is_free(place) & !seen.has(place)) {
-                return Some(place);
-            }
-            seen.mark(place);
-        }
-        None
-    }
-
-    fn knows(&self, place: usize) -> bool
-        ensures { result ≡ known (state_of self.now) place }
-    {
-        place < self.used
-    }
-
-    // Whether a node is of the sort that a part takes at its k-th child.
-    fn stands_well(&self, place: usize, from: usize, until: usize, k: usize) -> bool
-        requires { place < length self.now.nodes.now }
-        ensures { result ≡ same (is_stmt (node_at (state_of self.now) place).details.kind) (nat_le from k && nat_lt k until) }
-    {
-        let stmt = is_stmt(self.nodes[place].details.kind);
-        if takes_stmt(from, until, k) {
-            stmt
-        } else {
-            !stmt
-        }
-    }
-
+impl Table<'_> {
     // Whether a node stands under nothing.
     fn is_free(&self, place: usize) -> bool
-        requires { place < length self.now.nodes.now }
-        ensures { result ≡ is_free (state_of self.now) place }
+        requires { place < (table_state self.now).used }
+        ensures { result ≡ is_free (table_state self.now) place }
     {
-        no_parent(self.nodes[place].up)
+        matches!(self.memory.nodes[place].up, Up::Nothing)
+    }
+
+    // The first place that names no node.
+    fn first_unknown(&self, places: &[usize]) -> Option<usize>
+        ensures { result ≡ find (λ place. not (known (table_state self.now) place)) places.now }
+    {
+        places.iter().copied().find(|place| !self.knows(*place))
+    }
+
+    // Fault 2 at the first child that is no node.
+    fn check_known(&self, offer: &Offer<'_>) -> Result<(), TableFault>
+        ensures { result ≡ passed_unless (due_known (table_state self.now) offer.now.draft.now offer.now.places.now) }
+    {
+        match self.first_unknown(offer.kid_places()) {
+            Some(place) => Err(TableFault::Missing(place)),
+            None => Ok(()),
+        }
+    }
+
+    // Fault 5 at the first child that is a statement where the part takes expressions, or the other way round.
+    fn check_sorted(&self, offer: &Offer<'_>) -> Result<(), TableFault>
+        requires known { due_known (table_state self.now) offer.now.draft.now offer.now.places.now ≡ None }
+        requires counted { handed offer.now.draft.now ≡ length offer.now.places.now }
+        ensures { result ≡ passed_unless (due_place (table_state self.now) offer.now.draft.now offer.now.places.now) }
+    {
+        let draft = offer.draft;
+        let statements = draft.head..draft.head + draft.body + draft.branch;
+        let kids = offer.kid_places();
+        for (k, kid) in kids.iter().enumerate() {
+            let is_stmt = self.memory.nodes[*kid].details.kind.is_stmt();
+            if is_stmt != statements.contains(&k) {
+                return Err(TableFault::Misfit(*kid));
+            }
+        }
+        Ok(())
+    }
+
+    // Fault 6 at the first child that has a parent, or was named before.
+    fn check_held(&self, offer: &Offer<'_>) -> Result<(), TableFault>
+        requires { due_known (table_state self.now) offer.now.draft.now offer.now.places.now ≡ None }
+        ensures { result ≡ passed_unless (due_held (table_state self.now) offer.now.draft.now offer.now.places.now) }
+    {
+        let mut seen = Seen::none();
+        let kids = offer.kid_places();
+        for kid in kids {
+            if !self.is_free(*kid) || seen.has(*kid) {
+                return Err(TableFault::Held(*kid));
+            }
+            seen.mark(*kid);
+        }
+        Ok(())
+    }
+
+    // The refusal that is due before any count is made, if one is.
+    #[tactic(auto, using(crate::proofs::Passed::kind_passed, crate::proofs::Passed::counts_passed, crate::proofs::Passed::passed_none))]
+    pub(crate) fn check_before(&self, offer: &Offer<'_>) -> Result<(), TableFault>
+        ensures { result ≡ passed_unless (due_before (table_state self.now) self.now.text.now offer.now.draft.now offer.now.places.now offer.now.idents.now offer.now.values) }
+    {
+        self.check_known(offer)?;
+        offer.check_stored()?;
+        offer.check_range()?;
+        offer.check_text(self.text.len())?;
+        offer.check_fit(self.text)?;
+        self.check_sorted(offer)?;
+        self.check_held(offer)
     }
 }

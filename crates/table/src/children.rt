@@ -1,11 +1,10 @@
 //! Where a node's children stand among its links.
-ghost use Rattle.std.specs.Prelude.{◌≡◌, ℕ, ◌+◌, ◌-◌, ◌<◌, ◌≤◌, length, get_or, slice_index, slice_index_or};
+ghost use Rattle.std.specs.Prelude.{◌≡◌, ℕ, ◌+◌, ◌<◌, ◌≤◌, length, get_or, slice_index, slice_index_or};
 ghost use Rattle.table.specs.Finds.{arm_count, child_count, run_count, run_from};
-ghost use Rattle.table.specs.State.{arms_from, blank_link, default_of, kids, links_of, referred, references, state_of, total, walked};
+ghost use Rattle.table.specs.State.{arms_from, blank_link, default_of, kids, referred, references, total, walked};
 
-use crate::memory::Memory;
 use kind::shapes::Blocks;
-use node::records::{Details, Link, Node, Parts, Second};
+use node::records::{Details, Link, Parts, Second};
 
 // Where the run of walked parts begins.
 fn run_from(blocks: Blocks, parts: &Parts) -> usize
@@ -91,16 +90,6 @@ fn default_arm(second: Second) -> usize
     }
 }
 
-// How many children of a node are walked.
-pub(crate) fn walked_count(details: &Details, parts: &Parts) -> usize
-    ensures value { result ≡ child_count details.now parts.now }
-    ensures length { (f : ℕ → ℕ) → result ≡ length (walked f details.now parts.now) }
-    ensures bound { result ≤ 2000000 }
-{
-    let arms = reference_count(parts) + default_count(details.second);
-    run_count(details.kind.shape().blocks, parts) + (arms + arms)
-}
-
 /// What the links of a node name, by their numbers within the node's run.
 pub(crate) trait Named {
     ghost names: { Self → ℕ → ℕ };
@@ -113,88 +102,75 @@ pub(crate) trait Named {
 }
 
 /// The places that are handed in for a node to be put.
-#[derive(Clone, Copy)]
-pub(crate) struct Handed<'a> {
-    pub(crate) places: &'a [usize],
-}
+impl Named for &[usize] {
+    ghost names = { λ h k. slice_index h.now k };
 
-impl<'a> Named for Handed<'a> {
-    ghost names = { λ h k. slice_index h.places.now k };
-
-    ghost reach = { λ h. length h.places.now };
+    ghost reach = { λ h. length h.now };
 
     fn name_at(&self, k: usize) -> usize {
-        self.places[k]
+        self[k]
     }
 }
 
 /// The links of a node in the table.
-#[derive(Clone, Copy)]
-pub(crate) struct Laid<'a> {
-    pub(crate) links: &'a [Link],
-    pub(crate) start: usize,
-}
+impl Named for &[Link] {
+    ghost names = { λ l k. (get_or l.now k blank_link).place };
 
-impl<'a> Named for Laid<'a> {
-    ghost names = { λ l k. (get_or l.links.now (l.start + k) blank_link).place };
-
-    ghost reach = { λ l. length l.links.now - l.start };
+    ghost reach = { λ l. length l.now };
 
     fn name_at(&self, k: usize) -> usize {
-        self.links[self.start + k].place as usize
+        self[k].place as usize
     }
 }
 
-// The arm that a node refers to at a number, the default behind all references.
-fn reference<N: Named>(named: &N, details: &Details, parts: &Parts, k: usize) -> usize
-    requires reach { kids parts.now + references parts.now ≤ N.reach named.now }
-    requires arms { (j : ℕ) → j < length (referred (N.names named.now) details.now parts.now) → slice_index (referred (N.names named.now) details.now parts.now) j < parts.now.arms }
-    requires within { k < arm_count details.now parts.now }
-    ensures bound { result ≤ 400000 }
-    ensures there { result < parts.now.arms }
-    ensures value { result ≡ slice_index (referred (N.names named.now) details.now parts.now) k }
-{
-    if k < reference_count(parts) {
-        named.name_at(kid_count(parts) + k)
-    } else {
-        default_arm(details.second)
-    }
+/// A node as far as its children go: its details and parts, and what its links name.
+#[derive(Drop)]
+pub(crate) struct Family<'f, N: Named> {
+    pub(crate) named: N,
+    pub(crate) details: &'f Details,
+    pub(crate) parts: &'f Parts,
+    ghost reach: { kids parts.now + references parts.now ≤ N.reach named },
+    ghost arms: { (j : ℕ) → j < length (referred (N.names named) details.now parts.now) → slice_index (referred (N.names named) details.now parts.now) j < parts.now.arms },
 }
 
-// The child of a node at a number, in walk order.
-pub(crate) fn walked_child<N: Named>(named: &N, details: &Details, parts: &Parts, i: usize) -> usize
-    requires reach { kids parts.now + references parts.now ≤ N.reach named.now }
-    requires arms { (j : ℕ) → j < length (referred (N.names named.now) details.now parts.now) → slice_index (referred (N.names named.now) details.now parts.now) j < parts.now.arms }
-    requires within { i < child_count details.now parts.now }
-    ensures { (d : ℕ) → result ≡ slice_index_or (walked (N.names named.now) details.now parts.now) i d }
-{
-    let blocks = details.kind.shape().blocks;
-    let direct = run_count(blocks, parts);
-    if i < direct {
-        return named.name_at(run_from(blocks, parts) + i);
-    }
-    let arm = reference(named, details, parts, (i - direct) / 2);
-    named.name_at(arms_start(parts) + arm + arm + (i - direct) % 2)
-}
-
-impl Memory<'_> {
-    // How many children of a node are walked.
-    pub(crate) fn child_count(&self, node: &Node) -> usize
-        ensures length { result ≡ length (walked (links_of (state_of self.now) node.now) node.now.details node.now.parts) }
-        ensures count { result ≡ child_count node.now.details node.now.parts }
+impl<N: Named> Family<'_, N> {
+    // How many children are walked.
+    #[tactic(auto, using(crate::proofs::Found::length_walked))]
+    pub(crate) fn child_count(&self) -> usize
+        ensures value { result ≡ child_count self.now.details.now self.now.parts.now }
+        ensures length { result ≡ length (walked (N.names self.now.named) self.now.details.now self.now.parts.now) }
+        ensures bound { result ≤ 2000000 }
     {
-        walked_count(&node.details, &node.parts)
+        let arms = reference_count(self.parts) + default_count(self.details.second);
+        run_count(self.details.kind.shape().blocks, self.parts) + (arms + arms)
     }
 
-    // The child of a node at a number, in walk order.
-    pub(crate) fn child(&self, node: &Node, i: usize) -> usize
-        requires run { node.now.parts.start + total node.now.parts ≤ length self.now.links.now }
-        requires arms { (k : ℕ) → k < length (referred (links_of (state_of self.now) node.now) node.now.details node.now.parts) → slice_index (referred (links_of (state_of self.now) node.now) node.now.details node.now.parts) k < node.now.parts.arms }
-        requires within { i < child_count node.now.details node.now.parts }
-        ensures { (d : ℕ) → result ≡ slice_index_or (walked (links_of (state_of self.now) node.now) node.now.details node.now.parts) i d }
+    // The arm that is referred to at a number, the default behind all references.
+    fn reference(&self, k: usize) -> usize
+        requires { k < arm_count self.now.details.now self.now.parts.now }
+        ensures bound { result ≤ 400000 }
+        ensures there { result < self.now.parts.now.arms }
+        ensures value { result ≡ slice_index (referred (N.names self.now.named) self.now.details.now self.now.parts.now) k }
     {
-        let links = &*self.links;
-        let start = node.parts.start as usize;
-        walked_child(&Laid { links, start }, &node.details, &node.parts, i)
+        if k < reference_count(self.parts) {
+            self.named.name_at(kid_count(self.parts) + k)
+        } else {
+            default_arm(self.details.second)
+        }
+    }
+
+    // The child at a number, in walk order.
+    pub(crate) fn child(&self, i: usize) -> usize
+        requires { i < child_count self.now.details.now self.now.parts.now }
+        ensures { (d : ℕ) → result ≡ slice_index_or (walked (N.names self.now.named) self.now.details.now self.now.parts.now) i d }
+    {
+        let blocks = self.details.kind.shape().blocks;
+        let direct = run_count(blocks, self.parts);
+        if i < direct {
+            return self.named.name_at(run_from(blocks, self.parts) + i);
+        }
+        let arm = self.reference((i - direct) / 2);
+        self.named
+            .name_at(arms_start(self.parts) + arm + arm + (i - direct) % 2)
     }
 }

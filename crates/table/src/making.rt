@@ -4,7 +4,9 @@ ghost use Rattle.table.specs.Grows.{SameLoans};
 ghost use Rattle.table.specs.Puts.{Put};
 ghost use Rattle.table.specs.Reads.{memory_due, table_state};
 
+use crate::links::NewLinks;
 use crate::memory::Memory as Lent;
+use crate::offers::Offer;
 use crate::tables::Table;
 use draft::drafts::{Draft, RawIdent};
 use node::faults::TableFault;
@@ -26,11 +28,7 @@ fn within_limit(text: &[u8]) -> &[u8]
     ensures value { result.now ≡ take 65535 text.now }
     ensures bound { length result.now ≤ 65535 }
 {
-    if text.len() <= 65535 {
-        text
-    } else {
-        &text[0..65535]
-    }
+    &text[..text.len().min(65535)]
 }
 
 impl<'a> Table<'a> {
@@ -67,6 +65,15 @@ impl<'a> Table<'a> {
         ensures text { self.new.text ≡ self.old.text }
         ensures loans { SameLoans self.old.memory self.new.memory }
     {
-        self.memory.put(self.text, draft, places, idents, values)
+        let offer = Offer {
+            draft,
+            places,
+            idents,
+            values,
+        };
+        let node = self.accept(&offer)?;
+        let at = self.memory.used;
+        self.memory.grow(node, &NewLinks { places, idents });
+        Ok(at)
     }
 }

@@ -1,17 +1,28 @@
 //! What a table tells of a node: its record, and what its links hold.
 ghost use Rattle.node.specs.declared.faults.TableFault.TheVariants.{Missing};
-ghost use Rattle.table.specs.Facts.{Sound, kid, known};
+ghost use Rattle.table.specs.Facts.{kid, known};
 ghost use Rattle.table.specs.Reads.{has_kid, has_link, has_reference, ident_at, reference_at, table_state};
-ghost use Rattle.table.specs.State.{node_at, state_of};
+ghost use Rattle.table.specs.State.{link_at, node_at, state_of};
 ghost use Rattle.table.specs.Told.{IsHeight, IsLines};
 ghost use Rattle.tree.specs.Answers.{told};
-ghost use Rattle.std.specs.Prelude.{◌≡◌};
+ghost use Rattle.std.specs.Prelude.{◌≡◌, ◌+◌, ◌<◌, ◌≤◌, length, drop, nat_lt, if◌then◌else◌};
 
-use crate::children::{kid_count, link_count, reference_count};
+use crate::children::{Family, kid_count, link_count, reference_count};
 use crate::memory::Memory;
 use crate::tables::Table;
 use node::faults::TableFault;
-use node::records::{Ident, Node};
+use node::records::{Ident, Link, Node};
+use tree::trees::Tree;
+
+impl Memory<'_> {
+    // The link at a number of a run that begins at a link and has so many; none past the last.
+    fn link(&self, from: usize, count: usize, k: usize) -> Option<Link>
+        requires { from + count ≤ length self.now.links.now }
+        ensures { result ≡ (if nat_lt k count then Some (link_at (state_of self.now) (from + k)) else None) }
+    {
+        self.links[from..from + count].get(k).copied()
+    }
+}
 
 impl Table<'_> {
     /// How many nodes there are: the places below this number name them.
@@ -25,10 +36,25 @@ impl Table<'_> {
     pub fn node(&self, n: usize) -> Result<Node, TableFault>
         ensures { result ≡ told (known (table_state self.now) n) (node_at (table_state self.now) n) (Missing n) }
     {
-        if n < self.memory.used {
+        if self.knows(n) {
             Ok(self.memory.nodes[n])
         } else {
             Err(TableFault::Missing(n))
+        }
+    }
+
+    // The family of a known node.
+    pub(crate) fn family<'f>(&'f self, n: usize, node: &'f Node) -> Family<'f, &'f [Link]>
+        requires known { n < (table_state self.now).used }
+        requires node { node.now ≡ node_at (table_state self.now) n }
+        ensures details { result.details.now ≡ node.now.details }
+        ensures parts { result.parts.now ≡ node.now.parts }
+        ensures links { result.named.now ≡ drop node.now.parts.start (table_state self.now).links }
+    {
+        Family {
+            named: &self.memory.links[node.parts.start as usize..],
+            details: &node.details,
+            parts: &node.parts,
         }
     }
 
@@ -36,42 +62,36 @@ impl Table<'_> {
     pub fn kid(&self, n: usize, k: usize) -> Result<usize, TableFault>
         ensures { result ≡ told (has_kid (table_state self.now) n k) (kid (table_state self.now) n k) (Missing n) }
     {
-        if n < self.memory.used {
-            let parts = self.memory.nodes[n].parts;
-            if k < kid_count(&parts) {
-                return Ok(self.memory.links[parts.start as usize + k].place as usize);
-            }
-        }
-        Err(TableFault::Missing(n))
+        let parts = self.node(n)?.parts;
+        let from = parts.start as usize;
+        self.memory
+            .link(from, kid_count(&parts), k)
+            .map(|kid| kid.place as usize)
+            .ok_or(TableFault::Missing(n))
     }
 
     /// The arm that a reference of a node names, values before ranges; fault 2 as before.
     pub fn reference(&self, n: usize, k: usize) -> Result<usize, TableFault>
         ensures { result ≡ told (has_reference (table_state self.now) n k) (reference_at (table_state self.now) n k) (Missing n) }
     {
-        if n < self.memory.used {
-            let parts = self.memory.nodes[n].parts;
-            if k < reference_count(&parts) {
-                return Ok(
-                    self.memory.links[parts.start as usize
-                        + (kid_count(&parts) + k)].place as usize,
-                );
-            }
-        }
-        Err(TableFault::Missing(n))
+        let parts = self.node(n)?.parts;
+        let from = parts.start as usize + kid_count(&parts);
+        self.memory
+            .link(from, reference_count(&parts), k)
+            .map(|arm| arm.place as usize)
+            .ok_or(TableFault::Missing(n))
     }
 
     /// The name that belongs to a link of a node: the key of an item of a map, or a shared name; fault 2 as before.
     pub fn ident(&self, n: usize, k: usize) -> Result<Ident, TableFault>
         ensures { result ≡ told (has_link (table_state self.now) n k) (ident_at (table_state self.now) n k) (Missing n) }
     {
-        if n < self.memory.used {
-            let parts = self.memory.nodes[n].parts;
-            if k < link_count(&parts) {
-                return Ok(self.memory.links[parts.start as usize + k].ident);
-            }
-        }
-        Err(TableFault::Missing(n))
+        let parts = self.node(n)?.parts;
+        let from = parts.start as usize;
+        self.memory
+            .link(from, link_count(&parts), k)
+            .map(|link| link.ident)
+            .ok_or(TableFault::Missing(n))
     }
 
     /// The text that the names of the table are runs of.
@@ -80,16 +100,13 @@ impl Table<'_> {
     {
         self.text
     }
-}
 
-impl Table<'_> {
     /// The number of lines of descent from a node; fault 2 at any other place.
     pub fn lines(&self, n: usize) -> Result<usize, TableFault>
         ensures value { result ≡ told (known (table_state self.now) n) (node_at (table_state self.now) n).lines (Missing n) }
         ensures counted { IsLines (table_state self.now) n result }
     {
-        let memory = &self.memory;
-        memory.lines_of(n)
+        Ok(self.node(n)?.lines as usize)
     }
 
     /// The height of a node, one more than the length of its longest line of descent; fault 2 at any other place.
@@ -97,33 +114,6 @@ impl Table<'_> {
         ensures value { result ≡ told (known (table_state self.now) n) (node_at (table_state self.now) n).height (Missing n) }
         ensures longest { IsHeight (table_state self.now) n result }
     {
-        let memory = &self.memory;
-        memory.height_of(n)
-    }
-}
-
-impl Memory<'_> {
-    fn lines_of(&self, n: usize) -> Result<usize, TableFault>
-        requires { Sound (state_of self.now) }
-        ensures value { result ≡ told (known (state_of self.now) n) (node_at (state_of self.now) n).lines (Missing n) }
-        ensures counted { IsLines (state_of self.now) n result }
-    {
-        if n < self.used {
-            Ok(self.nodes[n].lines as usize)
-        } else {
-            Err(TableFault::Missing(n))
-        }
-    }
-
-    fn height_of(&self, n: usize) -> Result<usize, TableFault>
-        requires { Sound (state_of self.now) }
-        ensures value { result ≡ told (known (state_of self.now) n) (node_at (state_of self.now) n).height (Missing n) }
-        ensures longest { IsHeight (state_of self.now) n result }
-    {
-        if n < self.used {
-            Ok(self.nodes[n].height as usize)
-        } else {
-            Err(TableFault::Missing(n))
-        }
+        self.height(n)
     }
 }

@@ -1,18 +1,11 @@
-//! What a draft comes to: its parts as they are kept, its height and lines, and the room that it needs.
-ghost use Rattle.std.specs.Prelude.{◌≡◌, ◌+◌, ◌<◌, ◌≤◌, ◌&&◌, Some, None, MatchResult, nat_le};
-ghost use Rattle.draft.specs.Details.{details_of};
-ghost use Rattle.node.specs.declared.faults.TableFault.TheVariants.{Size};
+//! The record of a node to be put: its parts as they are kept, and whether its height and lines fit.
+ghost use Rattle.std.specs.Prelude.{◌≡◌, ◌+◌, ◌≤◌, ◌&&◌, nat_le};
 ghost use Rattle.node.specs.declared.records.Up.TheVariants.{Nothing};
-ghost use Rattle.table.specs.Facts.{Sound};
-ghost use Rattle.table.specs.Fresh.{Ready};
-ghost use Rattle.table.specs.Puts.{due_size, height_of, lines_of, shared_of};
-ghost use Rattle.table.specs.State.{state_of};
+ghost use Rattle.table.specs.Puts.{shared_of};
 
 use crate::measures::Measure;
-use crate::memory::Memory;
 use draft::drafts::Draft;
 use kind::shapes::Extra;
-use node::faults::TableFault;
 use node::records::{Details, Node, Parts, Up};
 
 // How many links shared names take.
@@ -26,7 +19,7 @@ pub(crate) fn shared_count(extra: Extra, idents: usize) -> usize
 }
 
 // The parts of a draft, whose counts fit.
-fn narrow(draft: &Draft, start: usize, shared: usize) -> Parts
+pub(crate) fn narrow(draft: &Draft, start: usize, shared: usize) -> Parts
     requires start { start ≤ 65535 }
     requires shared { shared ≤ 65535 }
     requires kids { draft.now.head + draft.now.body + draft.now.branch + draft.now.arms ≤ 65535 }
@@ -72,35 +65,9 @@ pub(crate) fn made(
 
 impl Measure {
     // Whether a node may be so high and have so many lines.
-    fn fits(self) -> bool
+    pub(crate) fn fits(self) -> bool
         ensures { result ≡ nat_le self.height 64 && nat_le self.lines 65535 }
     {
         self.height <= 64 && self.lines <= 65535
-    }
-}
-
-impl Memory<'_> {
-    // The height and the lines of a node to be put; fault 7 where they are too large.
-    pub(crate) fn sized(
-        &self,
-        draft: &Draft,
-        details: &Details,
-        places: &[usize],
-    ) -> Result<Measure, TableFault>
-        requires sound { Sound (state_of self.now) }
-        requires ready { Ready (state_of self.now) draft.now places.now }
-        requires details { details.now ≡ details_of draft.now }
-        ensures { MatchResult result (λ m. (due_size (state_of self.now) draft.now places.now ≡ None) × (m.height ≡ height_of (state_of self.now) draft.now places.now) × (m.lines ≡ lines_of (state_of self.now) draft.now places.now)) (λ f. due_size (state_of self.now) draft.now places.now ≡ Some f) }
-    {
-        if draft.values + draft.ranges > 32767 {
-            return Err(TableFault::Size(0));
-        }
-        let parts = narrow(draft, 0, 0);
-        let size = self.measure(places, details, &parts);
-        if size.fits() {
-            Ok(size)
-        } else {
-            Err(TableFault::Size(0))
-        }
     }
 }

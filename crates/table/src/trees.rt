@@ -25,29 +25,21 @@ impl<'a> Tree for Table<'a> {
     }
 
     fn height(&self, n: usize) -> Result<usize, TableFault> {
-        if n < self.memory.used {
-            Ok(self.memory.nodes[n].height as usize)
-        } else {
-            Err(TableFault::Missing(n))
-        }
+        Ok(self.node(n)?.height as usize)
     }
 
     fn child_count(&self, n: usize) -> Result<usize, TableFault> {
-        if n < self.memory.used {
-            let node = self.memory.nodes[n];
-            Ok(self.memory.child_count(&node))
-        } else {
-            Err(TableFault::Missing(n))
-        }
+        let node = self.node(n)?;
+        Ok(self.family(n, &node).child_count())
     }
 
     fn child(&self, n: usize, i: usize) -> Result<usize, TableFault> {
-        if n < self.memory.used {
-            let node = self.memory.nodes[n];
-            if i < self.memory.child_count(&node) {
-                return Ok(self.memory.child(&node, i));
-            }
+        let node = self.node(n)?;
+        let family = self.family(n, &node);
+        if i < family.child_count() {
+            Ok(family.child(i))
+        } else {
+            Err(TableFault::Missing(n))
         }
-        Err(TableFault::Missing(n))
     }
 }

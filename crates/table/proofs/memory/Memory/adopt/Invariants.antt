@@ -4,11 +4,11 @@ use Rattle.table.specs.State.{blank, state_of}
 use Rattle.table.proofs.memory.Memory.adopt.Given as goal
 
 -- the places so far stand under the node, and nothing else changed
-abbrev pub invariant-loop-k : goal.invariant-loop-k
-invariant-loop-k l =
+abbrev pub invariant-loop-kid : goal.invariant-loop-kid
+invariant-loop-kid l =
     (l.self.links ≡ l.initial.self.links)
     × (l.self.used ≡ l.initial.self.used)
     × (l.self.linked ≡ l.initial.self.linked)
     × SameLoans l.initial.self l.self
     × (length l.self.nodes.now ≡ length l.initial.self.nodes.now)
-    × ((j : ℕ) → j < length l.initial.self.nodes.now → get_or l.self.nodes.now j blank ≡ adopted (state_of l.initial.self) (take l.k l.places) l.p j)
+    × ((j : ℕ) → j < length l.initial.self.nodes.now → get_or l.self.nodes.now j blank ≡ adopted (state_of l.initial.self) (take l.kid-index l.kids) l.p j)

@@ -5,7 +5,7 @@ use Rattle.table.proofs.memory.Memory.measure.Given as goal
 -- what is left, with what was met, comes to the whole
 abbrev pub invariant-loop-i : goal.invariant-loop-i
 invariant-loop-i l =
-    let xs = walked (λ k. get_or l.places k 0) l.details l.parts in
+    let xs = walked (λ k. get_or l.family.named.now k 0) l.family.details.now l.family.parts.now in
     (l.height ≤ 65535)
     × (l.lines ≤ 65536)
     × (max l.height (highest (state_of l.self) (drop l.i xs)) ≡ highest (state_of l.self) xs)

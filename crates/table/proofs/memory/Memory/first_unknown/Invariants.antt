@@ -1,9 +1,0 @@
-use Rattle.std.proofs.Common.{◌≡◌, [], take, drop}
-use Rattle.table.specs.State.{state_of}
-use Rattle.table.specs.Tests.{first_failing, is_known}
-use Rattle.table.proofs.memory.Memory.first_unknown.Given as goal
-
--- the places passed are fine
-abbrev pub invariant-loop-k : goal.invariant-loop-k
-invariant-loop-k l =
-    first_failing (is_known (state_of l.self)) (take l.k l.places) (drop l.k l.places) ≡ first_failing (is_known (state_of l.self)) [] l.places
