@@ -1,28 +1,30 @@
 -- Parts and children of nodes whose links name the same. Assumes nothing.
-use Rattle.std.proofs.Common.{◌≡◌, ℕ, zero, suc, ◌+◌, ◌-◌, ◌/◌, ◌%◌, ◌<◌, ◌≤◌, max, List, [], ◌∷◌, ◌++◌, length, get_or, drop, sym, refl, ap, ◌∙◌, ap₂, ⊎_elim, arith}
+use Rattle.std.proofs.Common.{◌≡◌, ℕ, zero, suc, ◌+◌, ◌-◌, ◌/◌, ◌%◌, ◌<◌, ◌≤◌, max, List, [], ◌∷◌, ◌++◌, length, get_or, drop, Some, None, Option, sym, refl, ap, ◌∙◌, ap₂, ⊎_elim, arith}
 use Rattle.std.proofs.lemmas.Bool.{cases_lt}
 use Rattle.std.proofs.lemmas.List.{same_lists, get_or_default, get_or-drop}
 use Rattle.kind.specs.Shapes.{shape_of}
+use Rattle.node.specs.Parts.{kids, references, run_from, run_count}
+use Rattle.node.specs.Parts as parts
 use Rattle.node.specs.declared.records.Details.{Details}
 use Rattle.node.specs.declared.records.Link.{Link}
 use Rattle.node.specs.declared.records.Node.{Node}
 use Rattle.node.specs.declared.records.Parts.{Parts}
 use Rattle.kind.specs.declared.shapes.Blocks.{Blocks}
 use Rattle.kind.specs.declared.shapes.Blocks.TheVariants as blocks
-use Rattle.table.specs.Finds.{run_from, run_count, direct, child_count}
-use Rattle.table.specs.State.{State, node_at, links_of, blank_link, children, named, kids, references, referred, default_of, walked, arms_from, highest, all_lines}
+use Rattle.table.specs.Finds.{direct, child_count}
+use Rattle.table.specs.State.{State, node_at, links_of, blank_link, children, named, referred, default_of, walked, highest, all_lines}
 use Rattle.table.proofs.Found.{length_referred, length_walked, getD_walked_direct, getD_walked_arms}
 
 pub named_agrees : (f g : ℕ → ℕ) (from count : ℕ) → ((k : ℕ) → from ≤ k → k < from + count → f k ≡ g k) → named f from count ≡ named g from count
 named_agrees f g from zero same = refl
 named_agrees f g from (suc count) same = ap₂ ◌∷◌ (same from (omega arith) (omega arith)) (named_agrees f g (from + 1) count (λ k low high. same k (omega arith) (omega arith)))
 
-pub run_within : (b : Blocks) (p : Parts) → run_from b p + run_count b p ≤ p.head + p.body + p.branch
-run_within blocks.None p = omega arith
-run_within blocks.List p = omega arith
-run_within blocks.Walked p = omega arith
-run_within blocks.Held p = omega arith
-run_within blocks.Catch p = omega arith
+pub run_within : (b : Option Blocks) (p : Parts) → run_from b p + run_count b p ≤ parts.held p
+run_within None p = omega arith
+run_within (Some blocks.List) p = omega arith
+run_within (Some blocks.Walked) p = omega arith
+run_within (Some blocks.Held) p = omega arith
+run_within (Some blocks.Catch) p = omega arith
 
 -- a walked child is one of those held
 pub walked_held : (f : ℕ → ℕ) (d : Details) (p : Parts) → ((k : ℕ) → k < length (referred f d p) → get_or (referred f d p) k 0 < p.arms)
@@ -36,7 +38,7 @@ walked_held f d p arms i lt = ⊎_elim near far (cases_lt i (direct d p))
     far more =
         let j = (i - direct d p) / 2 in
         let low = arms j (omega (arith, length_referred f d p, length_walked f d p)) in (
-          arms_from p + get_or (referred f d p) j 0 + get_or (referred f d p) j 0 + (i - direct d p) % 2,
+          parts.held p + get_or (referred f d p) j 0 + get_or (referred f d p) j 0 + (i - direct d p) % 2,
           omega arith,
           getD_walked_arms f d p i more (omega (arith, length_walked f d p)),
         )
@@ -57,7 +59,7 @@ module _ (f g : ℕ → ℕ) (d : Details) (p : Parts) (same : (k : ℕ) → k <
           let low = arms j (omega (arith, length_referred f d p)) in
           getD_walked_arms f d p i more lt
           ∙ same _ (omega arith)
-          ∙ ap (λ x. g (arms_from p + get_or x j 0 + get_or x j 0 + (i - direct d p) % 2)) referred_agrees
+          ∙ ap (λ x. g (parts.held p + get_or x j 0 + get_or x j 0 + (i - direct d p) % 2)) referred_agrees
           ∙ sym (getD_walked_arms g d p i more lt)
 
       at : (i : ℕ) → i < length (walked f d p) → get_or (walked f d p) i 0 ≡ get_or (walked g d p) i 0

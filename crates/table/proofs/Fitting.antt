@@ -1,22 +1,24 @@
 -- What is known of a draft that no refusal is due for before counts are made. Assumes nothing.
-use Rattle.std.proofs.Common.{◌≡◌, ℕ, zero, suc, ◌+◌, ◌-◌, ◌<◌, ◌≤◌, min, Bool, true, false, cond, not, ◌&&◌, ltb, leb, List, [], ◌∷◌, length, get_or, take, drop, is_some, Some, None, Option, sym, refl, ap, ◌∙◌, subst, ⊎_elim, arith}
+use Rattle.std.proofs.Common.{◌≡◌, ℕ, zero, suc, ◌+◌, ◌-◌, ◌<◌, ◌≤◌, min, Bool, true, false, not, ◌&&◌, ltb, leb, List, [], ◌∷◌, length, get_or, take, drop, is_some, is_ok, Some, None, Ok, Err, Option, Result, MatchResult, sym, refl, ap, ◌∙◌, subst, ⊎_elim, arith}
 use Rattle.std.proofs.lemmas.List.{length-take-le, get_or-take, get_or-drop, length-drop}
-use Rattle.std.proofs.lemmas.Bool.{cond-true, and_parts, and_from, leb-true, le-leb, ltb-true, lt-ltb, eqb-true, not-true, cases_lt, both_ways}
-use Rattle.draft.proofs.Conjuncts.{within_parts}
-use Rattle.draft.specs.Details.{details_of, kind_of, second_of, small, small_constant}
-use Rattle.draft.specs.Drafts.{in_range, runs_within, if_given, ident_in_range, ident_within, constant_within, run_within}
+use Rattle.std.proofs.lemmas.Bool.{and_parts, and_from, leb-true, le-leb, ltb-true, lt-ltb, eqb-true, not-true, cases_lt, both_ways}
+use Rattle.std.proofs.lemmas.Result.{MatchResult-at_ok}
+use Rattle.draft.specs.Details.{details_of, kind_of, second_of, keepable, small, small_constant}
+use Rattle.draft.specs.Drafts.{runs_within, ident_in_range, ident_within, constant_within, run_within}
 use Rattle.draft.specs.Fits.{kids as draft_kids, fits_extra, no_arms, same}
-use Rattle.draft.specs.Lists.{all}
+use Rattle.std.specs.List.{list_all}
 use Rattle.draft.specs.declared.drafts.Draft.{Draft}
 use Rattle.draft.specs.declared.drafts.RawConstant.{RawConstant}
 use Rattle.draft.specs.declared.drafts.RawConstant.TheVariants as raw
 use Rattle.draft.specs.declared.drafts.RawIdent.{RawIdent}
 use Rattle.draft.specs.declared.drafts.RawRun.{RawRun}
 use Rattle.kind.specs.Shapes.{shape_of}
+use Rattle.node.specs.Parts.{kids, links, references}
+use Rattle.node.specs.Positions.{if_given}
+use Rattle.node.specs.declared.positions.OutOfRange.{OutOfRange}
 use Rattle.node.specs.declared.positions.RawPosition.{RawPosition}
 use Rattle.node.specs.declared.records.Details.{Details}
 use Rattle.node.specs.declared.records.Node.{Node}
-use Rattle.node.specs.declared.records.Up.TheVariants as up
 use Rattle.node.specs.declared.faults.TableFault.{TableFault}
 use Rattle.node.specs.declared.faults.TableFault.TheVariants.{Full}
 use Rattle.kind.specs.declared.shapes.Shape.{Shape}
@@ -30,7 +32,7 @@ use Rattle.table.specs.Reads.{table_state}
 use Rattle.table.specs.declared.offers.Offer.{Offer}
 use Rattle.table.specs.declared.tables.Table.{Table}
 use Rattle.table.specs.declared.memory.Memory.{Memory}
-use Rattle.table.specs.State.{State, state_of, kids, total, referred, default_of, references, has, distinct, node_at, up_number}
+use Rattle.table.specs.State.{State, state_of, referred, default_of, has, distinct, node_at, up_number}
 use Rattle.table.specs.Tests.{in_place, is_free}
 use Rattle.table.proofs.Elements.{all_at}
 use Rattle.table.proofs.Failing.{apart_distinct}
@@ -45,11 +47,11 @@ no_default : (d : Draft) (a : ℕ) → d.default ≡ Some a → no_arms d ≡ tr
 no_default d a is n = both_ways true (sym (sym (ap (λ o. not (is_some o)) is) ∙ (and_parts _ _ n).1)) refl
 
 -- a default is there only where the kind has arms, and names one
-default_low : (x : Extra) (d : Draft) (idents : ℕ) → fits_extra x d idents ≡ true → (a : ℕ) → d.default ≡ Some a → a < d.arms
-default_low extra.None d idents e a is = absurd (no_default d a is (and_parts _ _ e).0)
-default_low extra.Keys d idents e a is = absurd (no_default d a is (and_parts _ _ e).0)
-default_low extra.Arms d idents e a is = ltb-true a d.arms (sym (ap (if_given (λ b. ltb b d.arms)) is) ∙ (and_parts _ _ e).0)
-default_low extra.Shared d idents e a is = absurd (no_default d a is (and_parts _ _ e).0)
+default_low : (x : Option Extra) (d : Draft) (idents : ℕ) → fits_extra x d idents ≡ true → (a : ℕ) → d.default ≡ Some a → a < d.arms
+default_low None d idents e a is = absurd (no_default d a is (and_parts _ _ e).0)
+default_low (Some extra.Keys) d idents e a is = absurd (no_default d a is (and_parts _ _ e).0)
+default_low (Some extra.Arms) d idents e a is = ltb-true a d.arms (sym (ap (if_given (λ b. ltb b d.arms)) is) ∙ (and_parts _ _ e).0)
+default_low (Some extra.Shared) d idents e a is = absurd (no_default d a is (and_parts _ _ e).0)
 
 default_there : (name : Option RawIdent) (space : Option RawPosition) (df : Option ℕ) (arms : ℕ) → ((a : ℕ) → df ≡ Some a → a < arms)
     → (j : ℕ) → j < length (default_of (second_of name space df)) → get_or (default_of (second_of name space df)) j 0 < arms
@@ -91,13 +93,22 @@ module _ (n : ℕ) (le : n ≤ 65535) where
 
   pub runs_more : (d : Draft) → runs_within n d ≡ true → runs_within 65535 d ≡ true
   runs_more d e =
-      let w = within_parts n d e in
-      and_from _ _ (and_from _ _ (given_more (constant_within n) (constant_within 65535) constant_more d.constant w.constant) (given_more (ident_within n) (ident_within 65535) (λ i. run_more i.name) d.first w.first))
-      (given_more (ident_within n) (ident_within 65535) (λ i. run_more i.name) d.second w.second)
+      let both = and_parts _ _ e in
+      let early = and_parts _ _ both.0 in
+      and_from _ _ (and_from _ _ (given_more (constant_within n) (constant_within 65535) constant_more d.constant early.0) (given_more (ident_within n) (ident_within 65535) (λ i. run_more i.name) d.first early.1))
+      (given_more (ident_within n) (ident_within 65535) (λ i. run_more i.name) d.second both.1)
 
-  pub idents_more : (xs : List RawIdent) → all (ident_within n) xs ≡ true → all (ident_within 65535) xs ≡ true
+  pub idents_more : (xs : List RawIdent) → list_all (ident_within n) xs ≡ true → list_all (ident_within 65535) xs ≡ true
   idents_more [] e = refl
   idents_more (x ∷ xs) e = let p = and_parts _ _ e in and_from _ _ (run_more x.name p.0) (idents_more xs p.1)
+
+-- what is kept of a draft that can be kept
+pub details_there : (d : Draft) (r : Result Details OutOfRange) → keepable d ≡ true → MatchResult r (λ x. (keepable d ≡ true) × (x ≡ details_of d)) (λ _. keepable d ≡ false) → is_ok r ≡ true
+details_there d (Ok x) kept e = refl
+details_there d (Err f) kept e = absurd (both_ways _ e kept)
+
+pub details_are : (d : Draft) (r : Result Details OutOfRange) (x : Details) → r ≡ Ok x → MatchResult r (λ x. (keepable d ≡ true) × (x ≡ details_of d)) (λ _. keepable d ≡ false) → x ≡ details_of d
+details_are d r x is e = (MatchResult-at_ok (λ x. (keepable d ≡ true) × (x ≡ details_of d)) (λ _. keepable d ≡ false) x is e).1
 
 -- each refusal in turn is not due
 pub record NotDue (s : State) (text : List ℕ) (d : Draft) (places : List ℕ) (idents : List RawIdent) (values : ℕ) : Type 0 where
@@ -195,10 +206,9 @@ module _ (t : Table) (o : Offer) (none : due_before (table_state t) t.text.now o
   pub kids_placed : (k : ℕ) → k < draft_kids d → in_place s (parts_of d 0 0) (take k (kid_list d places)) (get_or (kid_list d places) k 0) ≡ true
   kids_placed k lt = place_passed s d places nd.placed k (omega (arith, listed))
 
-  pub details_kept : (r : Option Details) → r ≡ cond (in_range d && runs_within 65535 d && small d) (Some (details_of d)) None → r ≡ Some (details_of d)
-  details_kept r is =
-      is ∙ cond-true (in_range d && runs_within 65535 d && small d) _ _
-      (and_from _ _ (and_from _ _ (range_passed d idents nd.range).0 (runs_more (length text) t.text_fits d (text_passed (length text) d idents nd.texts).0)) is_small)
+  pub is_keepable : keepable d ≡ true
+  is_keepable =
+      and_from _ _ (and_from _ _ (range_passed d idents nd.range).0 (runs_more (length text) t.text_fits d (text_passed (length text) d idents nd.texts).0)) is_small
 
   -- the links that a draft needs: one for each place handed in and each shared name
   abbrev shared : ℕ
@@ -207,7 +217,7 @@ module _ (t : Table) (o : Offer) (none : due_before (table_state t) t.text.now o
   pub shared_is : (x : Details) (y : Shape) (k : ℕ) → x ≡ details_of d → y ≡ shape_of x.kind → k ≡ shared_of y.extra (length idents) → k ≡ shared
   shared_is x y k is shaped e = e ∙ ap (λ z. shared_of z.extra (length idents)) shaped ∙ ap (λ z. shared_of (shape_of z.kind).extra (length idents)) is
 
-  needed : (k : ℕ) → k ≡ shared → length places + k ≡ total (parts_of d 0 (length idents))
+  needed : (k : ℕ) → k ≡ shared → length places + k ≡ links (parts_of d 0 (length idents))
   needed k e = omega (arith, parts_fitting.counted)
 
   pub room_is : (k : ℕ) → k ≡ shared
@@ -222,17 +232,17 @@ module _ (t : Table) (o : Offer) (none : due_before (table_state t) t.text.now o
       ap (λ x. or_else x (or_else (due_size s d places) (due_room s d (length idents)))) none ∙ ap (λ x. or_else x (due_room s d (length idents))) is
 
   -- what room there is, and what sizes are allowed
-  pub room_there : due_room s d (length idents) ≡ None → (s.used < min (length s.nodes) 4096) × (s.linked + total (parts_of d 0 (length idents)) ≤ min (length s.links) 8192)
+  pub room_there : due_room s d (length idents) ≡ None → (s.used < min (length s.nodes) 4096) × (s.linked + links (parts_of d 0 (length idents)) ≤ min (length s.links) 8192)
   room_there e = let p = and_parts _ _ (unless_none _ _ e) in (ltb-true _ _ p.0, leb-true _ _ p.1)
 
   pub size_there : due_size s d places ≡ None → (height_of s d places ≤ 64) × (lines_of s d places ≤ 65535)
   size_there e = let p = and_parts _ _ (unless_none _ _ e) in (leb-true _ _ p.0, leb-true _ _ p.1)
 
   pub made_is : (x : Details) (k h l : ℕ) (n : Node)
-      → n ≡ record { details = x; parts = record { start = s.linked; head = d.head; body = d.body; branch = d.branch; arms = d.arms; values = d.values; ranges = d.ranges; shared = k }; up = up.Nothing; height = h; lines = l }
+      → n ≡ record { details = x; parts = record { start = s.linked; head = d.head; body = d.body; branch = d.branch; arms = d.arms; values = d.values; ranges = d.ranges; shared = k }; up = None; height = h; lines = l }
       → x ≡ details_of d → k ≡ shared → h ≡ height_of s d places → l ≡ lines_of s d places → n ≡ node_of s d places (length idents)
   made_is x k h l n is p q r t =
-      is ∙ (λ i. record { details = p i; parts = record { start = s.linked; head = d.head; body = d.body; branch = d.branch; arms = d.arms; values = d.values; ranges = d.ranges; shared = q i }; up = up.Nothing; height = r i; lines = t i })
+      is ∙ (λ i. record { details = p i; parts = record { start = s.linked; head = d.head; body = d.body; branch = d.branch; arms = d.arms; values = d.values; ranges = d.ranges; shared = q i }; up = None; height = r i; lines = t i })
 
   same_true : (x y : Bool) → same x y ≡ true → x ≡ y
   same_true true y e = sym e
@@ -240,7 +250,7 @@ module _ (t : Table) (o : Offer) (none : due_before (table_state t) t.text.now o
 
   -- so the node may be put
   module _ (size : due_size s d places ≡ None) (space : due_room s d (length idents) ≡ None) where
-    pub fresh : Fresh s (node_of s d places (length idents)) (kid_list d places) (new_link places idents) (total (parts_of d 0 (length idents)))
+    pub fresh : Fresh s (node_of s d places (length idents)) (kid_list d places) (new_link places idents) (links (parts_of d 0 (length idents)))
     fresh = record {
       start = refl;
       counted = refl;
@@ -269,10 +279,10 @@ module _ (t : Table) (o : Offer) (none : due_before (table_state t) t.text.now o
         omega (arith, subst (λ i. get_or places i 0 < d.arms) {x = draft_kids d + (j - draft_kids d)} {y = j} (omega arith) ref, few))
         (cases_lt j (draft_kids d))
 
-  pub idents_range : all ident_in_range idents ≡ true
+  pub idents_range : list_all ident_in_range idents ≡ true
   idents_range = (range_passed d idents nd.range).1
 
-  pub idents_within : all (ident_within 65535) idents ≡ true
+  pub idents_within : list_all (ident_within 65535) idents ≡ true
   idents_within = idents_more (length text) t.text_fits idents (text_passed (length text) d idents nd.texts).1
 
 -- a node that is accepted may be put, and what always holds of the table then holds of the memory
@@ -283,16 +293,16 @@ module _ (t : Table) (o : Offer) (accepted : put_refusal (table_state t) t.text.
   later : (due_size (table_state t) o.draft.now o.places.now ≡ None) × (due_room (table_state t) o.draft.now (length o.idents.now) ≡ None)
   later = or_none (due_size (table_state t) o.draft.now o.places.now) _ (or_none (due_before (table_state t) t.text.now o.draft.now o.places.now o.idents.now o.values) _ accepted).1
 
-  pub room_left : (t.memory.used < min (length t.memory.nodes.now) 4096) × (t.memory.linked + total (parts_of o.draft.now 0 (length o.idents.now)) ≤ min (length t.memory.links.now) 8192)
+  pub room_left : (t.memory.used < min (length t.memory.nodes.now) 4096) × (t.memory.linked + links (parts_of o.draft.now 0 (length o.idents.now)) ≤ min (length t.memory.links.now) 8192)
   room_left = room_there t o before later.1
 
   pub places_small : (j : ℕ) → j < length o.places.now → get_or o.places.now j 0 < 65536
   places_small = small_places t o before later.0 later.1
 
   module _ (m : Memory) (node : Node) (is : node ≡ node_of (table_state t) o.draft.now o.places.now (length o.idents.now))
-      (grown : Grown (table_state t) (state_of m) node (take (kids node.parts) o.places.now) (new_link o.places.now o.idents.now) (total node.parts)) where
-    pub grown_put : Grown (table_state t) (state_of m) (node_of (table_state t) o.draft.now o.places.now (length o.idents.now)) (kid_list o.draft.now o.places.now) (new_link o.places.now o.idents.now) (total (parts_of o.draft.now 0 (length o.idents.now)))
-    grown_put = subst (λ n. Grown (table_state t) (state_of m) n (take (kids n.parts) o.places.now) (new_link o.places.now o.idents.now) (total n.parts)) is grown
+      (grown : Grown (table_state t) (state_of m) node (take (kids node.parts) o.places.now) (new_link o.places.now o.idents.now) (links node.parts)) where
+    pub grown_put : Grown (table_state t) (state_of m) (node_of (table_state t) o.draft.now o.places.now (length o.idents.now)) (kid_list o.draft.now o.places.now) (new_link o.places.now o.idents.now) (links (parts_of o.draft.now 0 (length o.idents.now)))
+    grown_put = subst (λ n. Grown (table_state t) (state_of m) n (take (kids n.parts) o.places.now) (new_link o.places.now o.idents.now) (links n.parts)) is grown
 
     pub sound_put : Sound (state_of m)
     sound_put = sound_grown (table_state t) (state_of m) _ (kid_list o.draft.now o.places.now) (new_link o.places.now o.idents.now) _ (table_sound t) grown_put (fresh t o before later.0 later.1)

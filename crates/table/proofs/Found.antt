@@ -1,17 +1,18 @@
 -- Where the children of a node stand among its links. Assumes nothing.
-use Rattle.std.proofs.Common.{◌≡◌, ℕ, zero, suc, ◌+◌, ◌-◌, ◌/◌, ◌%◌, ◌<◌, ◌≤◌, List, [], ◌∷◌, ◌++◌, map, length, get_or, sym, refl, ap, ◌∙◌, ap₂, arith}
+use Rattle.std.proofs.Common.{◌≡◌, ℕ, zero, suc, ◌+◌, ◌-◌, ◌/◌, ◌%◌, ◌<◌, ◌≤◌, List, [], ◌∷◌, ◌++◌, map, length, get_or, Some, None, Option, sym, refl, ap, ◌∙◌, ap₂, arith}
 use Rattle.std.proofs.lemmas.List.FromFn.{length-map-range_with_len, get_or-map-range_with_len}
 use Rattle.std.proofs.lemmas.List.{length-append, get_or_append_left, get_or-append_right, map-append}
 use Rattle.std.specs.List.{range_with_len}
+use Rattle.std.specs.Option.{option_to_list}
 use Rattle.kind.specs.Shapes.{shape_of}
+use Rattle.node.specs.Parts.{kids, references, run_from, run_count}
+use Rattle.node.specs.Parts as parts
 use Rattle.node.specs.declared.records.Details.{Details}
 use Rattle.node.specs.declared.records.Parts.{Parts}
-use Rattle.node.specs.declared.records.Second.{Second}
-use Rattle.node.specs.declared.records.Second.TheVariants as second
 use Rattle.kind.specs.declared.shapes.Blocks.{Blocks}
 use Rattle.kind.specs.declared.shapes.Blocks.TheVariants as blocks
-use Rattle.table.specs.Finds.{run_from, run_count, direct, arm_count, child_count}
-use Rattle.table.specs.State.{named, head_of, body_of, branch_of, references_of, references, referred, default_of, walked_parts, walked, through, arms_from, kids}
+use Rattle.table.specs.Finds.{direct, arm_count, child_count}
+use Rattle.table.specs.State.{named, head_of, body_of, branch_of, references_of, referred, default_of, walked_parts, walked, through}
 
 pub length_named : (f : ℕ → ℕ) (from count : ℕ) → length (named f from count) ≡ count
 length_named f from count = length-map-range_with_len f from count
@@ -30,30 +31,30 @@ named_add : (f : ℕ → ℕ) (from a b : ℕ) → named f from a ++ named f (fr
 named_add f from a b = sym (map-append f (range_with_len from a) (range_with_len (from + a) b)) ∙ ap (map f) (counting_add from a b)
 
 -- the walked parts are one run of links
-pub walked_run : (b : Blocks) (f : ℕ → ℕ) (p : Parts) → walked_parts b (head_of f p) (body_of f p) (branch_of f p) ≡ named f (run_from b p) (run_count b p)
-walked_run blocks.None f p = refl
-walked_run blocks.List f p = refl
-walked_run blocks.Walked f p =
+pub walked_run : (b : Option Blocks) (f : ℕ → ℕ) (p : Parts) → walked_parts b (head_of f p) (body_of f p) (branch_of f p) ≡ named f (run_from b p) (run_count b p)
+walked_run None f p = refl
+walked_run (Some blocks.List) f p = refl
+walked_run (Some blocks.Walked) f p =
     ap (λ x. head_of f p ++ x) (named_add f p.head p.body p.branch)
     ∙ ap (λ x. head_of f p ++ named f x (p.body + p.branch)) (omega arith)
     ∙ named_add f 0 p.head (p.body + p.branch)
     ∙ ap (named f 0) (omega arith)
-walked_run blocks.Held f p = ap (λ x. head_of f p ++ named f x p.body) (omega arith) ∙ named_add f 0 p.head p.body
-walked_run blocks.Catch f p = named_add f p.head p.body p.branch
+walked_run (Some blocks.Held) f p = ap (λ x. head_of f p ++ named f x p.body) (omega arith) ∙ named_add f 0 p.head p.body
+walked_run (Some blocks.Catch) f p = named_add f p.head p.body p.branch
 
 pub length_through : (f : ℕ → ℕ) (p : Parts) (arms : List ℕ) → length (through f p arms) ≡ length arms + length arms
 length_through f p [] = refl
 length_through f p (a ∷ as') = omega (arith, length_through f p as')
 
 pub getD_through : (f : ℕ → ℕ) (p : Parts) (arms : List ℕ) (j d : ℕ) → j < length arms + length arms
-    → get_or (through f p arms) j d ≡ f (arms_from p + get_or arms (j / 2) 0 + get_or arms (j / 2) 0 + j % 2)
+    → get_or (through f p arms) j d ≡ f (parts.held p + get_or arms (j / 2) 0 + get_or arms (j / 2) 0 + j % 2)
 getD_through f p [] j d lt = absurd (omega arith)
 getD_through f p (a ∷ as') zero d lt = ap f (omega arith)
 getD_through f p (a ∷ as') (suc zero) d lt = refl
 getD_through f p (a ∷ as') (suc (suc j)) d lt =
     getD_through f p as' j d (omega arith)
-    ∙ ap (λ (k : ℕ). f (arms_from p + get_or (a ∷ as') k 0 + get_or (a ∷ as') k 0 + j % 2)) halves
-    ∙ ap (λ (r : ℕ). f (arms_from p + get_or (a ∷ as') (suc (suc j) / 2) 0 + get_or (a ∷ as') (suc (suc j) / 2) 0 + r)) rests
+    ∙ ap (λ (k : ℕ). f (parts.held p + get_or (a ∷ as') k 0 + get_or (a ∷ as') k 0 + j % 2)) halves
+    ∙ ap (λ (r : ℕ). f (parts.held p + get_or (a ∷ as') (suc (suc j) / 2) 0 + get_or (a ∷ as') (suc (suc j) / 2) 0 + r)) rests
   where
     halves : suc (j / 2) ≡ suc (suc j) / 2
     halves = omega arith
@@ -90,15 +91,13 @@ module _ (f : ℕ → ℕ) (d : Details) (p : Parts) where
       ∙ getD_named f from (direct d p) i 0 lt
 
   pub getD_walked_arms : (i : ℕ) → direct d p ≤ i → i < child_count d p
-      → get_or (walked f d p) i 0 ≡ f (arms_from p + get_or (referred f d p) ((i - direct d p) / 2) 0 + get_or (referred f d p) ((i - direct d p) / 2) 0 + (i - direct d p) % 2)
+      → get_or (walked f d p) i 0 ≡ f (parts.held p + get_or (referred f d p) ((i - direct d p) / 2) 0 + get_or (referred f d p) ((i - direct d p) / 2) 0 + (i - direct d p) % 2)
   getD_walked_arms i ge lt =
       let from = run_from (shape_of d.kind).blocks p in
       ap (λ x. get_or x i 0) walked_is
       ∙ get_or-append_right (named f from (direct d p)) (through f p (referred f d p)) (direct d p) i 0 (length_named f from (direct d p)) ge
       ∙ getD_through f p (referred f d p) (i - direct d p) 0 (omega (arith, length_referred))
 
-pub one_default : (x : Second) → length (default_of x) ≤ 1
-one_default second.Nothing = omega arith
-one_default (second.Name i) = omega arith
-one_default (second.Namespace q) = omega arith
-one_default (second.Default arm) = omega arith
+pub one_default : (x : Option ℕ) → length (option_to_list x) ≤ 1
+one_default None = omega arith
+one_default (Some arm) = omega arith

@@ -1,14 +1,17 @@
 -- What always holds of a table holds after a put. Assumes nothing.
-use Rattle.std.proofs.Common.{◌≡◌, ℕ, suc, ◌+◌, ◌<◌, ◌≤◌, Bool, true, false, cond, ◌⊎◌, List, length, get_or, sym, refl, ap, ◌∙◌, subst, ap₂, inl, inr, ⊎_elim, arith}
+use Rattle.std.proofs.Common.{◌≡◌, ℕ, suc, ◌+◌, ◌<◌, ◌≤◌, Bool, true, false, cond, ◌⊎◌, List, length, get_or, Some, sym, refl, ap, ◌∙◌, subst, ap₂, inl, inr, ⊎_elim, arith}
 use Rattle.std.proofs.lemmas.Bool.{cases_lt, cases_Bool}
 use Rattle.std.proofs.lemmas.List.{same_lists, get_or_default}
+use Rattle.kind.specs.Kinds.{is_stmt}
+use Rattle.node.specs.Parts.{kids, references}
+use Rattle.node.specs.Parts as parts
 use Rattle.node.specs.declared.records.Link.{Link}
 use Rattle.node.specs.declared.records.Node.{Node}
 use Rattle.node.specs.declared.records.Up.TheVariants as up
-use Rattle.table.specs.Facts.{Sound, kid, Holds, Under, Refers, Walks, is_stmt, takes_stmt}
+use Rattle.table.specs.Facts.{Sound, kid, Holds, Under, Refers, Walks, takes_stmt}
 use Rattle.table.specs.Fresh.{Fresh}
 use Rattle.table.specs.Grows.{Grown, with_up}
-use Rattle.table.specs.State.{State, node_at, link_at, links_of, named, kids, references, total, referred, walked, children, held, arms_referred, has, distinct, up_number, highest, all_lines}
+use Rattle.table.specs.State.{State, node_at, link_at, links_of, named, referred, walked, children, held, arms_referred, has, distinct, up_number, highest, all_lines}
 use Rattle.table.proofs.Agree.{named_agrees, walked_held, referred_agrees, walked_agrees, highest_agrees, lines_agree, highest_above}
 use Rattle.table.proofs.Found.{length_named, getD_named}
 use Rattle.table.proofs.Has.{has_at, has_place}
@@ -37,8 +40,8 @@ module _ (s s' : State) (node : Node) (kid_list : List ℕ) (new : ℕ → Link)
   by_place P old here j lt = ⊎_elim (λ less. old j less) (λ more. subst P {x = u} (omega (arith, grown.used)) here) (cases_lt j u)
 
   -- an adopted node differs only in what it stands under
-  adopted_data : (b : Bool) (n : Node) → ((cond b (with_up (up.Node u) n) n).details ≡ n.details) × ((cond b (with_up (up.Node u) n) n).parts ≡ n.parts)
-      × ((cond b (with_up (up.Node u) n) n).height ≡ n.height) × ((cond b (with_up (up.Node u) n) n).lines ≡ n.lines)
+  adopted_data : (b : Bool) (n : Node) → ((cond b (with_up (Some (up.Node u)) n) n).details ≡ n.details) × ((cond b (with_up (Some (up.Node u)) n) n).parts ≡ n.parts)
+      × ((cond b (with_up (Some (up.Node u)) n) n).height ≡ n.height) × ((cond b (with_up (Some (up.Node u)) n) n).lines ≡ n.lines)
   adopted_data true n = (refl, refl, refl, refl)
   adopted_data false n = (refl, refl, refl, refl)
 
@@ -54,7 +57,7 @@ module _ (s s' : State) (node : Node) (kid_list : List ℕ) (new : ℕ → Link)
   same_lines : (j : ℕ) → j < u → (node_at s' j).lines ≡ (node_at s j).lines
   same_lines j lt = ap (λ n. n.lines) (grown.old_nodes j lt) ∙ (adopted_data (has kid_list j) (node_at s j)).3
 
-  same_links : (j : ℕ) → j < u → (k : ℕ) → k < total (node_at s j).parts → links_of s' (node_at s' j) k ≡ links_of s (node_at s j) k
+  same_links : (j : ℕ) → j < u → (k : ℕ) → k < parts.links (node_at s j).parts → links_of s' (node_at s' j) k ≡ links_of s (node_at s j) k
   same_links j lt k within =
       ap (λ p. (link_at s' (p.start + k)).place) (same_parts j lt) ∙ ap (λ l. l.place) (grown.old_links ((node_at s j).parts.start + k) (omega (arith, sound.runs_fit j lt)))
 
@@ -85,7 +88,7 @@ module _ (s s' : State) (node : Node) (kid_list : List ℕ) (new : ℕ → Link)
   new_parts : (node_at s' u).parts ≡ node.parts
   new_parts = ap (λ n. n.parts) grown.new_node
 
-  new_named : (k : ℕ) → k < total node.parts → links_of s' (node_at s' u) k ≡ (new k).place
+  new_named : (k : ℕ) → k < parts.links node.parts → links_of s' (node_at s' u) k ≡ (new k).place
   new_named k within =
       ap (λ p. (link_at s' (p.start + k)).place) new_parts ∙ ap (λ i. (link_at s' (i + k)).place) fresh.start ∙ ap (λ l. l.place) (grown.new_links k (omega (arith, fresh.counted)))
 
@@ -115,7 +118,7 @@ module _ (s s' : State) (node : Node) (kid_list : List ℕ) (new : ℕ → Link)
   up_is : (j : ℕ) → j < u → up_number (node_at s' j).up ≡ cond (has kid_list j) (suc (suc u)) (up_number (node_at s j).up)
   up_is j lt = ap (λ n. up_number n.up) (grown.old_nodes j lt) ∙ pick (has kid_list j)
     where
-      pick : (b : Bool) → up_number (cond b (with_up (up.Node u) (node_at s j)) (node_at s j)).up ≡ cond b (suc (suc u)) (up_number (node_at s j).up)
+      pick : (b : Bool) → up_number (cond b (with_up (Some (up.Node u)) (node_at s j)) (node_at s j)).up ≡ cond b (suc (suc u)) (up_number (node_at s j).up)
       pick true = refl
       pick false = refl
 
@@ -234,9 +237,9 @@ module _ (s s' : State) (node : Node) (kid_list : List ℕ) (new : ℕ → Link)
   sound_grown = record {
     nodes_fit = omega (arith, grown.used, grown.nodes_long, fresh.nodes_fit);
     links_fit = omega (arith, grown.linked, grown.links_long, fresh.links_fit);
-    runs_fit = by_place (λ i. (node_at s' i).parts.start + total (node_at s' i).parts ≤ s'.linked)
-        (λ i less. subst (λ p. p.start + total p ≤ s'.linked) (sym (same_parts i less)) (omega (arith, sound.runs_fit i less, grown.linked)))
-        (subst (λ p. p.start + total p ≤ s'.linked) (sym new_parts) (omega (arith, fresh.start, fresh.counted, grown.linked)));
+    runs_fit = by_place (λ i. (node_at s' i).parts.start + parts.links (node_at s' i).parts ≤ s'.linked)
+        (λ i less. subst (λ p. p.start + parts.links p ≤ s'.linked) (sym (same_parts i less)) (omega (arith, sound.runs_fit i less, grown.linked)))
+        (subst (λ p. p.start + parts.links p ≤ s'.linked) (sym new_parts) (omega (arith, fresh.start, fresh.counted, grown.linked)));
     kids_known = kids_known';
     kids_lower = kids_lower';
     kids_under = kids_under';

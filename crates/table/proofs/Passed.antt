@@ -2,12 +2,11 @@
 use Rattle.std.proofs.Common.{◌≡◌, ℕ, ◌<◌, Bool, true, false, List, [], length, get_or, take, Some, None, Option, Result, Ok, Err, is_err, sym, refl, ap, ◌∙◌, subst, arith}
 use Rattle.std.specs.Option.{option_map}
 use Rattle.std.proofs.lemmas.Bool.{and_parts, eqb-true, ltb-true, both_ways}
-use Rattle.draft.proofs.Conjuncts.{in_range_parts}
 use Rattle.draft.specs.Fits.{fits, handed, fits_head, fits_blocks, fits_extra, fits_value, fits_names}
 use Rattle.draft.specs.declared.drafts.Draft.{Draft}
 use Rattle.draft.specs.Details.{kind_of}
 use Rattle.draft.specs.Drafts.{in_range, runs_within, ident_in_range, ident_within, kind_in_range}
-use Rattle.draft.specs.Lists.{all}
+use Rattle.std.specs.List.{list_all}
 use Rattle.draft.specs.declared.drafts.RawIdent.{RawIdent}
 use Rattle.kind.specs.Shapes.{shape_of}
 use Rattle.node.specs.declared.faults.TableFault.{TableFault}
@@ -87,10 +86,10 @@ module _ (s : State) (d : Draft) (places : List ℕ) where
   pub held_passed : due_held s d places ≡ None → (k : ℕ) → k < length (kid_list d places) → not_held s (take k (kid_list d places)) (get_or (kid_list d places) k 0) ≡ true
   held_passed e k lt = all_passed (not_held s) [] (kid_list d places) (mapped_none Held _ e) k lt
 
-pub range_passed : (d : Draft) (idents : List RawIdent) → due_range d idents ≡ None → (in_range d ≡ true) × (all ident_in_range idents ≡ true)
+pub range_passed : (d : Draft) (idents : List RawIdent) → due_range d idents ≡ None → (in_range d ≡ true) × (list_all ident_in_range idents ≡ true)
 range_passed d idents e = and_parts _ _ (unless_none _ _ e)
 
-pub text_passed : (text : ℕ) (d : Draft) (idents : List RawIdent) → due_text text d idents ≡ None → (runs_within text d ≡ true) × (all (ident_within text) idents ≡ true)
+pub text_passed : (text : ℕ) (d : Draft) (idents : List RawIdent) → due_text text d idents ≡ None → (runs_within text d ≡ true) × (list_all (ident_within text) idents ≡ true)
 text_passed text d idents e = and_parts _ _ (unless_none _ _ e)
 
 pub fit_passed : (text : List ℕ) (d : Draft) (places : List ℕ) (idents : List RawIdent) → due_fit text d places idents ≡ None
@@ -99,7 +98,15 @@ fit_passed text d places idents e = and_parts _ _ (unless_none _ _ e)
 
 -- the kind is in range, and the counts come to the places that were handed in
 pub kind_passed : (d : Draft) (idents : List RawIdent) → due_range d idents ≡ None → kind_in_range d.kind ≡ true
-kind_passed d idents e = (in_range_parts d (range_passed d idents e).0).kind
+kind_passed d idents e =
+    let a = and_parts _ _ (range_passed d idents e).0 in
+    let b = and_parts _ _ a.0 in
+    let c = and_parts _ _ b.0 in
+    let f = and_parts _ _ c.0 in
+    let g = and_parts _ _ f.0 in
+    let h = and_parts _ _ g.0 in
+    let i = and_parts _ _ h.0 in
+    (and_parts _ _ i.0).0
 
 pub counts_passed : (text : List ℕ) (d : Draft) (places : List ℕ) (idents : List RawIdent) → due_fit text d places idents ≡ None → handed d ≡ length places
 counts_passed text d places idents e = (fit_parts (shape_of (kind_of d.kind)) d (length places) (length idents) (fit_passed text d places idents e).0).counted

@@ -1,5 +1,5 @@
 -- The height and the lines of a node to be put. Assumes nothing.
-use Rattle.std.proofs.Common.{◌≡◌, ℕ, suc, ◌+◌, ◌<◌, ◌≤◌, min, Bool, true, ◌&&◌, leb, List, [], ◌∷◌, length, get_or, Some, sym, refl, ap, ◌∙◌, ap₂, ⊎_elim, arith}
+use Rattle.std.proofs.Common.{◌≡◌, ℕ, suc, ◌+◌, ◌<◌, ◌≤◌, min, Bool, true, ◌&&◌, leb, List, [], ◌∷◌, length, get_or, Some, None, Option, sym, refl, ap, ◌∙◌, ap₂, ⊎_elim, arith}
 use Rattle.std.proofs.lemmas.Bool.{le-leb, lt-leb, leb-true, leb-false, and_right, cases_Bool}
 use Rattle.draft.specs.Details.{details_of}
 use Rattle.draft.specs.declared.drafts.Draft.{Draft}
@@ -13,11 +13,11 @@ use Rattle.table.specs.State.{State, node_at, walked, all_lines}
 use Rattle.table.proofs.Agree.{walked_held}
 use Rattle.table.proofs.Found.{length_walked}
 
-pub shared_none : (x : Extra) → shared_of x 0 ≡ 0
-shared_none extra.None = refl
-shared_none extra.Keys = refl
-shared_none extra.Arms = refl
-shared_none extra.Shared = refl
+pub shared_none : (x : Option Extra) → shared_of x 0 ≡ 0
+shared_none None = refl
+shared_none (Some extra.Keys) = refl
+shared_none (Some extra.Arms) = refl
+shared_none (Some extra.Shared) = refl
 
 -- as many lines as children, where each has one at least
 all_lines_long : (s : State) (xs : List ℕ) → ((i : ℕ) → i < length xs → 1 ≤ (node_at s (get_or xs i 0)).lines) → length xs ≤ all_lines s xs

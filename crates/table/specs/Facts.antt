@@ -1,9 +1,10 @@
 -- What always holds of a table's memory. Assumes nothing.
-use Rattle.std.specs.Prelude.{◌≡◌, ℕ, suc, ◌+◌, ◌<◌, ◌≤◌, min, Bool, true, false, ◌&&◌, length, nat_le, nat_lt, slice_index, slice_index_or}
-use Rattle.kind.specs.declared.kinds.Kind.{Kind}
-use Rattle.kind.specs.declared.kinds.Kind.TheVariants as kind
+use Rattle.std.specs.Prelude.{◌≡◌, ℕ, suc, ◌+◌, ◌<◌, ◌≤◌, min, Bool, true, ◌&&◌, length, nat_le, nat_lt, slice_index, slice_index_or}
+use Rattle.kind.specs.Kinds.{is_stmt}
+use Rattle.node.specs.Parts.{kids}
+use Rattle.node.specs.Parts as parts
 use Rattle.node.specs.declared.records.Parts.{Parts}
-use Rattle.table.specs.State.{State, node_at, links_of, kids, total, arms_referred, children, held, has, distinct, up_number, highest, all_lines}
+use Rattle.table.specs.State.{State, node_at, links_of, arms_referred, children, held, has, distinct, up_number, highest, all_lines}
 
 -- a place names a node
 abbrev pub known : State → ℕ → Bool
@@ -29,11 +30,7 @@ Refers s i k = (i < s.used) × (k < length (arms_referred s i))
 
 -- body and branch take statements, every other part expressions
 abbrev pub takes_stmt : Parts → ℕ → Bool
-takes_stmt p k = nat_le p.head k && nat_lt k (p.head + p.body + p.branch)
-
-abbrev pub is_stmt : Kind → Bool
-is_stmt (kind.Stmt k) = true
-is_stmt (kind.Expr k) = false
+takes_stmt p k = nat_le p.head k && nat_lt k (parts.held p)
 
 -- no more nodes and links are in use than were lent, nor than the limits
 abbrev pub NodesFit : State → Type 0
@@ -44,7 +41,7 @@ LinksFit s = s.linked ≤ min (length s.links) 8192
 
 -- a node's links lie among those in use
 abbrev pub RunsFit : State → Type 0
-RunsFit s = (i : ℕ) → i < s.used → (node_at s i).parts.start + total (node_at s i).parts ≤ s.linked
+RunsFit s = (i : ℕ) → i < s.used → (node_at s i).parts.start + parts.links (node_at s i).parts ≤ s.linked
 
 -- what a node holds is known, of lower rank, stands under it, and is there once
 abbrev pub KidsKnown : State → Type 0

@@ -1,17 +1,20 @@
 -- Inner: what is known of a node that is about to be put, once every refusal was tested. Assumes nothing.
 use Rattle.std.specs.Prelude.{◌≡◌, ℕ, suc, ◌+◌, ◌<◌, ◌≤◌, min, true, List, length, slice_index}
+use Rattle.kind.specs.Kinds.{is_stmt}
+use Rattle.node.specs.Parts.{kids}
+use Rattle.node.specs.Parts as parts
 use Rattle.node.specs.declared.records.Link.{Link}
 use Rattle.node.specs.declared.records.Node.{Node}
 use Rattle.draft.specs.Details.{details_of}
 use Rattle.draft.specs.Fits.{handed, kids as draft_kids}
 use Rattle.draft.specs.declared.drafts.Draft.{Draft}
-use Rattle.table.specs.Facts.{is_stmt, takes_stmt}
+use Rattle.table.specs.Facts.{takes_stmt}
 use Rattle.table.specs.Puts.{handed_in, parts_of}
-use Rattle.table.specs.State.{State, node_at, kids, total, referred, walked, distinct, up_number, highest, all_lines}
+use Rattle.table.specs.State.{State, node_at, referred, walked, distinct, up_number, highest, all_lines}
 
 pub record Fresh (s : State) (node : Node) (kid_list : List ℕ) (new : ℕ → Link) (count : ℕ) : Type 0 where
   pub start : node.parts.start ≡ s.linked
-  pub counted : total node.parts ≡ count
+  pub counted : parts.links node.parts ≡ count
   pub listed : length kid_list ≡ kids node.parts
   pub links : (k : ℕ) → k < kids node.parts → (new k).place ≡ slice_index kid_list k
   pub nodes_fit : s.used < min (length s.nodes) 4096

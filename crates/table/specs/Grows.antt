@@ -1,5 +1,5 @@
 -- How a put changes a table's memory. Assumes nothing.
-use Rattle.std.specs.Prelude.{◌≡◌, ℕ, suc, ◌+◌, ◌<◌, cond, List, map, length, slice_index, slice_index_or}
+use Rattle.std.specs.Prelude.{◌≡◌, ℕ, suc, ◌+◌, ◌<◌, cond, List, map, length, slice_index, slice_index_or, Some, Option}
 use Rattle.draft.specs.Details.{ident_of}
 use Rattle.draft.specs.declared.drafts.RawIdent.{RawIdent}
 use Rattle.node.specs.declared.records.Link.{Link}
@@ -14,12 +14,12 @@ abbrev pub new_link : List ℕ → List RawIdent → ℕ → Link
 new_link places idents k = record { place = slice_index places k; ident = slice_index_or (map ident_of idents) k blank_ident }
 
 -- a node that stands under another
-abbrev pub with_up : Up → Node → Node
+abbrev pub with_up : Option Up → Node → Node
 with_up u n = record { details = n.details; parts = n.parts; up = u; height = n.height; lines = n.lines }
 
 -- a node as it is after p has taken some places as its children
 abbrev pub adopted : State → List ℕ → ℕ → ℕ → Node
-adopted s kid_list p j = cond (has kid_list j) (with_up (up.Node p) (node_at s j)) (node_at s j)
+adopted s kid_list p j = cond (has kid_list j) (with_up (Some (up.Node p)) (node_at s j)) (node_at s j)
 
 -- the same lent memory
 pub record SameLoans (m m' : Memory) : Type 0 where

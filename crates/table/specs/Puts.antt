@@ -1,27 +1,27 @@
 -- When a put is refused, and with what. Assumes nothing.
 use Rattle.std.specs.Prelude.{◌≡◌, ℕ, suc, ◌+◌, min, Bool, true, false, not, ◌&&◌, ◌||◌, ltb, List, [], ◌∷◌, length, take, drop, Some, None, Ok, Err, Option, Result, ◌==◌, nat_le, nat_lt, slice_index}
+use Rattle.std.specs.List.{list_all}
 use Rattle.std.specs.Option.{option_map}
 use Rattle.draft.specs.Details.{details_of, kind_of}
 use Rattle.draft.specs.Drafts.{in_range, runs_within, ident_in_range, ident_within}
-use Rattle.draft.specs.Fits.{fits, handed}
+use Rattle.draft.specs.Fits.{fits, handed, has_position}
 use Rattle.draft.specs.Fits as draft_fits
 use Rattle.draft.specs.Keys.{key_bytes}
-use Rattle.draft.specs.Lists.{all, has_position}
 use Rattle.draft.specs.declared.drafts.Draft.{Draft}
 use Rattle.draft.specs.declared.drafts.RawConstant.{RawConstant}
 use Rattle.draft.specs.declared.drafts.RawConstant.TheVariants as raw
 use Rattle.draft.specs.declared.drafts.RawIdent.{RawIdent}
 use Rattle.kind.specs.Shapes.{shape_of}
+use Rattle.node.specs.Parts.{links}
 use Rattle.node.specs.declared.faults.StoreFault.TheVariants as store
 use Rattle.node.specs.declared.faults.TableFault.{TableFault}
 use Rattle.node.specs.declared.faults.TableFault.TheVariants.{Missing, Range, Text, Misfit, Held, Size, Full, Store}
 use Rattle.node.specs.declared.records.Node.{Node}
 use Rattle.node.specs.declared.records.Parts.{Parts}
-use Rattle.node.specs.declared.records.Up.TheVariants as up
 use Rattle.kind.specs.declared.shapes.Extra.{Extra}
 use Rattle.kind.specs.declared.shapes.Extra.TheVariants as extra
 use Rattle.table.specs.Grows.{Grown, new_link}
-use Rattle.table.specs.State.{State, walked, highest, all_lines, total}
+use Rattle.table.specs.State.{State, walked, highest, all_lines}
 use Rattle.table.specs.Tests.{first_failing, is_known, in_place, not_held}
 
 -- the children of a draft among the places handed in with it
@@ -29,11 +29,11 @@ abbrev pub kid_list : Draft → List ℕ → List ℕ
 kid_list d places = take (draft_fits.kids d) places
 
 -- shared names stand in links of their own, keys with the items
-abbrev pub shared_of : Extra → ℕ → ℕ
-shared_of extra.None idents = 0
-shared_of extra.Keys idents = 0
-shared_of extra.Arms idents = 0
-shared_of extra.Shared idents = idents
+abbrev pub shared_of : Option Extra → ℕ → ℕ
+shared_of None idents = 0
+shared_of (Some extra.Keys) idents = 0
+shared_of (Some extra.Arms) idents = 0
+shared_of (Some extra.Shared) idents = idents
 
 abbrev pub parts_of : Draft → ℕ → ℕ → Parts
 parts_of d start idents = record {
@@ -60,7 +60,7 @@ lines_of s d places = suc (all_lines s (walked (handed_in places) (details_of d)
 
 -- the node as it is put
 abbrev pub node_of : State → Draft → List ℕ → ℕ → Node
-node_of s d places idents = record { details = details_of d; parts = parts_of d s.linked idents; up = up.Nothing; height = height_of s d places; lines = lines_of s d places }
+node_of s d places idents = record { details = details_of d; parts = parts_of d s.linked idents; up = None; height = height_of s d places; lines = lines_of s d places }
 
 -- no fault where a test holds
 abbrev pub unless : Bool → TableFault → Option TableFault
@@ -89,11 +89,11 @@ stored_due values (Some c) = constant_due values c
 
 -- fault 3: a number out of range
 abbrev pub due_range : Draft → List RawIdent → Option TableFault
-due_range d idents = unless (in_range d && all ident_in_range idents) (Range 0)
+due_range d idents = unless (in_range d && list_all ident_in_range idents) (Range 0)
 
 -- fault 4: a run beyond the text, which has so many bytes
 abbrev pub due_text : ℕ → Draft → List RawIdent → Option TableFault
-due_text text d idents = unless (runs_within text d && all (ident_within text) idents) (Text (record { place = 0 }) 0)
+due_text text d idents = unless (runs_within text d && list_all (ident_within text) idents) (Text (record { place = 0 }) 0)
 
 -- two names have the same bytes; one of some keys has these bytes; no two keys have the same
 abbrev pub same_bytes : List ℕ → List ℕ → Bool
@@ -110,15 +110,15 @@ abbrev pub keys_apart : List ℕ → List RawIdent → Bool
 keys_apart text [] = true
 keys_apart text (key ∷ keys) = not (key_among text (key_bytes text key) keys) && keys_apart text keys
 
-abbrev pub keys_fit : Extra → List ℕ → List RawIdent → Bool
-keys_fit extra.None text keys = true
-keys_fit extra.Keys text keys = keys_apart text keys
-keys_fit extra.Arms text keys = true
-keys_fit extra.Shared text keys = true
+abbrev pub keys_fit : Option Extra → List ℕ → List RawIdent → Bool
+keys_fit None text keys = true
+keys_fit (Some extra.Keys) text keys = keys_apart text keys
+keys_fit (Some extra.Arms) text keys = true
+keys_fit (Some extra.Shared) text keys = true
 
 -- fault 5: parts and data that do not fit the kind; then the first child that is a statement for an expression or the other way round
-abbrev pub extras_fit : Extra → List ℕ → Draft → List ℕ → List RawIdent → Bool
-extras_fit x text d places idents = all has_position idents && all (λ arm. ltb arm d.arms) (drop (draft_fits.kids d) places) && keys_fit x text idents
+abbrev pub extras_fit : Option Extra → List ℕ → Draft → List ℕ → List RawIdent → Bool
+extras_fit x text d places idents = list_all has_position idents && list_all (λ arm. ltb arm d.arms) (drop (draft_fits.kids d) places) && keys_fit x text idents
 
 abbrev pub parts_fit : List ℕ → Draft → List ℕ → List RawIdent → Bool
 parts_fit text d places idents =
@@ -140,7 +140,7 @@ due_size s d places = unless (nat_le (height_of s d places) 64 && nat_le (lines_
 
 -- fault 8: no node or too few links left
 abbrev pub due_room : State → Draft → ℕ → Option TableFault
-due_room s d idents = unless (nat_lt s.used (min (length s.nodes) 4096) && nat_le (s.linked + total (parts_of d 0 idents)) (min (length s.links) 8192)) (Full 0)
+due_room s d idents = unless (nat_lt s.used (min (length s.nodes) 4096) && nat_le (s.linked + links (parts_of d 0 idents)) (min (length s.links) 8192)) (Full 0)
 
 -- the refusals that are due before any count is made, in the order of their numbers
 abbrev pub due_before : State → List ℕ → Draft → List ℕ → List RawIdent → ℕ → Option TableFault
@@ -157,5 +157,5 @@ put_refusal s text d places idents values = or_else (due_before s text d places 
 abbrev pub Put : State → List ℕ → Draft → List ℕ → List RawIdent → ℕ → Result ℕ TableFault → State → Type 0
 Put s text d places idents values (Ok at) s' =
     (put_refusal s text d places idents values ≡ None) × (at ≡ s.used)
-    × Grown s s' (node_of s d places (length idents)) (kid_list d places) (new_link places idents) (total (parts_of d 0 (length idents)))
+    × Grown s s' (node_of s d places (length idents)) (kid_list d places) (new_link places idents) (links (parts_of d 0 (length idents)))
 Put s text d places idents values (Err f) s' = (put_refusal s text d places idents values ≡ Some f) × (s' ≡ s)

@@ -4,9 +4,10 @@ use Rattle.tree.specs.Limits.{limit_of}
 use Rattle.tree.specs.declared.limits.Memory.{Memory}
 use Rattle.tree.specs.declared.limits.Memory.TheVariants as limits
 use Rattle.tree.specs.declared.limits.MemoryFault.{MemoryFault}
+use Rattle.node.specs.Parts.{kids, links, references}
 use Rattle.node.specs.declared.records.Ident.{Ident}
 use Rattle.table.specs.Facts.{known, kid}
-use Rattle.table.specs.State.{State, state_of, node_at, link_at, kids, references, total}
+use Rattle.table.specs.State.{State, state_of, node_at, link_at}
 use Rattle.table.specs.declared.tables.Table.{Table}
 
 -- what a table means
@@ -21,7 +22,7 @@ abbrev pub has_reference : State → ℕ → ℕ → Bool
 has_reference s n k = known s n && nat_lt k (references (node_at s n).parts)
 
 abbrev pub has_link : State → ℕ → ℕ → Bool
-has_link s n k = known s n && nat_lt k (total (node_at s n).parts)
+has_link s n k = known s n && nat_lt k (links (node_at s n).parts)
 
 -- the arm that a reference names, by values first and then by ranges
 abbrev pub reference_at : State → ℕ → ℕ → ℕ

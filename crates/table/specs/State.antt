@@ -1,6 +1,9 @@
 -- What a table's memory means: its nodes, what each holds, and in which order that is walked. Assumes nothing.
-use Rattle.std.specs.Prelude.{ℕ, suc, ◌+◌, max, Bool, true, false, cond, not, ◌&&◌, List, [], ◌∷◌, ◌++◌, map, None, ◌==◌, slice_index_or}
+use Rattle.std.specs.Prelude.{ℕ, suc, ◌+◌, max, Bool, true, false, cond, not, ◌&&◌, List, [], ◌∷◌, ◌++◌, map, Some, None, Option, ◌==◌, slice_index_or}
 use Rattle.std.specs.List.{range_with_len, flat_map}
+use Rattle.std.specs.Option.{option_to_list}
+use Rattle.node.specs.Parts.{default_arm, kids, references}
+use Rattle.node.specs.Parts as parts
 use Rattle.node.specs.Positions.{none}
 use Rattle.kind.specs.Shapes.{shape_of}
 use Rattle.kind.specs.declared.kinds.Kind.TheVariants as kind
@@ -10,9 +13,7 @@ use Rattle.node.specs.declared.records.Ident.{Ident}
 use Rattle.node.specs.declared.records.Link.{Link}
 use Rattle.node.specs.declared.records.Node.{Node}
 use Rattle.node.specs.declared.records.Parts.{Parts}
-use Rattle.node.specs.declared.records.Payload.TheVariants as payload
 use Rattle.node.specs.declared.records.Second.{Second}
-use Rattle.node.specs.declared.records.Second.TheVariants as second
 use Rattle.node.specs.declared.records.Up.{Up}
 use Rattle.node.specs.declared.records.Up.TheVariants as up
 use Rattle.kind.specs.declared.shapes.Blocks.{Blocks}
@@ -41,9 +42,9 @@ no_parts start = record { start = start; head = 0; body = 0; branch = 0; arms = 
 
 abbrev pub blank : Node
 blank = record {
-  details = record { kind = kind.Stmt stmt.Noop; flags = record { bits = 0 }; position = none; payload = payload.Nothing; first = None; second = second.Nothing };
+  details = record { kind = kind.Stmt stmt.Noop; flags = record { bits = 0 }; position = none; payload = None; first = None; second = None };
   parts = no_parts 0;
-  up = up.Nothing;
+  up = None;
   height = 0;
   lines = 0;
 }
@@ -53,16 +54,6 @@ node_at s i = slice_index_or s.nodes i blank
 
 abbrev pub link_at : State → ℕ → Link
 link_at s k = slice_index_or s.links k blank_link
-
--- how many children a node holds, how many references to arms it has, and how many links that makes
-abbrev pub kids : Parts → ℕ
-kids p = p.head + p.body + p.branch + p.arms + p.arms
-
-abbrev pub references : Parts → ℕ
-references p = p.values + p.ranges
-
-abbrev pub total : Parts → ℕ
-total p = kids p + references p + p.shared
 
 -- What a node's links name, by the number of the link within its run. The definitions below are over such a
 -- function, so that they serve a node in the table and one that is about to be put.
@@ -82,23 +73,17 @@ body_of f p = named f p.head p.body
 abbrev pub branch_of : (ℕ → ℕ) → Parts → List ℕ
 branch_of f p = named f (p.head + p.body) p.branch
 
-abbrev pub arms_from : Parts → ℕ
-arms_from p = p.head + p.body + p.branch
-
 abbrev pub condition_of : (ℕ → ℕ) → Parts → ℕ → ℕ
-condition_of f p arm = f (arms_from p + arm + arm)
+condition_of f p arm = f (parts.held p + arm + arm)
 
 abbrev pub value_of : (ℕ → ℕ) → Parts → ℕ → ℕ
-value_of f p arm = f (arms_from p + arm + arm + 1)
+value_of f p arm = f (parts.held p + arm + arm + 1)
 
 abbrev pub references_of : (ℕ → ℕ) → Parts → List ℕ
 references_of f p = named f (kids p) (references p)
 
-abbrev pub default_of : Second → List ℕ
-default_of second.Nothing = []
-default_of (second.Name i) = []
-default_of (second.Namespace q) = []
-default_of (second.Default arm) = arm ∷ []
+abbrev pub default_of : Option Second → List ℕ
+default_of second = option_to_list (default_arm second)
 
 -- the arms that a node refers to: by values, by ranges, and by its default
 abbrev pub referred : (ℕ → ℕ) → Details → Parts → List ℕ
@@ -109,12 +94,12 @@ abbrev pub through : (ℕ → ℕ) → Parts → List ℕ → List ℕ
 through f p arms = flat_map (λ arm. condition_of f p arm ∷ value_of f p arm ∷ []) arms
 
 -- which of head, body and branch are walked, and in which order
-abbrev pub walked_parts : Blocks → List ℕ → List ℕ → List ℕ → List ℕ
-walked_parts blocks.None head body branch = head
-walked_parts blocks.List head body branch = body
-walked_parts blocks.Walked head body branch = head ++ (body ++ branch)
-walked_parts blocks.Held head body branch = head ++ body
-walked_parts blocks.Catch head body branch = body ++ branch
+abbrev pub walked_parts : Option Blocks → List ℕ → List ℕ → List ℕ → List ℕ
+walked_parts None head body branch = head
+walked_parts (Some blocks.List) head body branch = body
+walked_parts (Some blocks.Walked) head body branch = head ++ (body ++ branch)
+walked_parts (Some blocks.Held) head body branch = head ++ body
+walked_parts (Some blocks.Catch) head body branch = body ++ branch
 
 -- the children in walk order: the walked parts, then for each reference and the default the arm's condition and value
 abbrev pub walked : (ℕ → ℕ) → Details → Parts → List ℕ
@@ -141,10 +126,10 @@ distinct [] = true
 distinct (x ∷ xs) = not (has xs x) && distinct xs
 
 -- what a node stands under, as a number: nothing, a script, or a node by its place
-abbrev pub up_number : Up → ℕ
-up_number up.Nothing = 0
-up_number up.Script = 1
-up_number (up.Node p) = suc (suc p)
+abbrev pub up_number : Option Up → ℕ
+up_number None = 0
+up_number (Some up.Script) = 1
+up_number (Some (up.Node p)) = suc (suc p)
 
 -- the greatest height and the sum of the lines of some nodes
 abbrev pub highest : State → List ℕ → ℕ

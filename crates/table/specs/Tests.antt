@@ -1,8 +1,10 @@
 -- The tests of a put on the children that are handed in. Assumes nothing.
-use Rattle.std.specs.Prelude.{ℕ, ◌+◌, Bool, cond, not, ◌&&◌, List, [], ◌∷◌, ◌++◌, length, Some, None, Option, ◌==◌, nat_le, nat_lt}
+use Rattle.std.specs.Prelude.{ℕ, Bool, cond, not, ◌&&◌, List, [], ◌∷◌, ◌++◌, length, Some, None, Option, ◌==◌, nat_le, nat_lt}
 use Rattle.draft.specs.Fits.{same}
+use Rattle.kind.specs.Kinds.{is_stmt}
+use Rattle.node.specs.Parts.{held}
 use Rattle.node.specs.declared.records.Parts.{Parts}
-use Rattle.table.specs.Facts.{known, is_stmt}
+use Rattle.table.specs.Facts.{known}
 use Rattle.table.specs.State.{State, node_at, has, up_number}
 
 -- the first of some places that fails a test, which may look at those before it
@@ -20,7 +22,7 @@ abbrev pub sorted_at : State → ℕ → ℕ → List ℕ → ℕ → Bool
 sorted_at s from until done c = same (is_stmt (node_at s c).details.kind) (nat_le from (length done) && nat_lt (length done) until)
 
 abbrev pub in_place : State → Parts → List ℕ → ℕ → Bool
-in_place s p done c = sorted_at s p.head (p.head + p.body + p.branch) done c
+in_place s p done c = sorted_at s p.head (held p) done c
 
 -- a node stands under nothing, and was not named before
 abbrev pub is_free : State → ℕ → Bool

@@ -12,7 +12,6 @@ use crate::offers::Offer;
 use crate::seen::Seen;
 use crate::tables::Table;
 use node::faults::TableFault;
-use node::records::Up;
 use tree::trees::Tree;
 
 impl Table<'_> {
@@ -21,7 +20,8 @@ impl Table<'_> {
         requires { place < (table_state self.now).used }
         ensures { result ≡ is_free (table_state self.now) place }
     {
-        matches!(self.memory.nodes[place].up, Up::Nothing)
+        let up = self.memory.nodes[place].up;
+        up.is_none()
     }
 
     // The first place that names no node.

@@ -1,33 +1,36 @@
 //! The writes of a put: links, then what the children stand under, then the node.
 ghost use Rattle.std.specs.Prelude.{◌≡◌, ℕ, ◌+◌, ◌<◌, ◌≤◌, true, length, take, slice_index, slice_index_or, slice_set};
+ghost use Rattle.node.specs.Parts.{kids, links};
 ghost use Rattle.table.specs.Grows.{Grown, SameLoans, adopted, new_link, with_up};
-ghost use Rattle.table.specs.State.{blank, blank_link, kids, state_of, total};
+ghost use Rattle.table.specs.State.{blank, blank_link, state_of};
 
-use crate::children::{kid_count, link_count};
 use crate::links::NewLinks;
 use crate::memory::Memory;
 use node::records::{Node, Up};
 
 // A node as it is when it stands under another.
 fn under(node: Node, up: Up) -> Node
-    ensures { result ≡ with_up up node }
+    ensures { result ≡ with_up (Some up) node }
 {
-    Node { up, ..node }
+    Node {
+        up: Some(up),
+        ..node
+    }
 }
 
 impl Memory<'_> {
     // Writes the links of a node behind those in use.
-    fn lay(&mut self, links: &NewLinks<'_>, count: usize)
+    fn lay(&mut self, new: &NewLinks<'_>, count: usize)
         requires { self.old.linked + count ≤ length self.old.links.now }
         ensures same { (self.new.nodes ≡ self.old.nodes) × (self.new.used ≡ self.old.used) × (self.new.linked ≡ self.old.linked) }
         ensures loans { SameLoans self.old self.new }
         ensures long { length self.new.links.now ≡ length self.old.links.now }
         ensures old { (k : ℕ) → k < self.old.linked → slice_index_or self.new.links.now k blank_link ≡ slice_index_or self.old.links.now k blank_link }
-        ensures new { (k : ℕ) → k < count → slice_index_or self.new.links.now (self.old.linked + k) blank_link ≡ new_link links.now.places.now links.now.idents.now k }
+        ensures new { (k : ℕ) → k < count → slice_index_or self.new.links.now (self.old.linked + k) blank_link ≡ new_link new.now.places.now new.now.idents.now k }
     {
         let from = self.linked;
         for (k, link) in self.links[from..from + count].iter_mut().enumerate() {
-            *link = links.at(k);
+            *link = new.at(k);
         }
     }
 
@@ -57,19 +60,19 @@ impl Memory<'_> {
     }
 
     // Puts a node at the first unused place: its links, what its children stand under, its record.
-    pub(crate) fn grow(&mut self, node: Node, links: &NewLinks<'_>)
+    pub(crate) fn grow(&mut self, node: Node, new: &NewLinks<'_>)
         requires nodes { self.old.used < length self.old.nodes.now }
         requires few { self.old.used < 65536 }
-        requires links { self.old.linked + total node.parts ≤ length self.old.links.now }
-        requires handed { kids node.parts ≤ length links.now.places.now }
-        requires known { (k : ℕ) → k < kids node.parts → slice_index links.now.places.now k < self.old.used }
-        ensures grown { Grown (state_of self.old) (state_of self.new) node (take (kids node.parts) links.now.places.now) (new_link links.now.places.now links.now.idents.now) (total node.parts) }
+        requires links { self.old.linked + links node.parts ≤ length self.old.links.now }
+        requires handed { kids node.parts ≤ length new.now.places.now }
+        requires known { (k : ℕ) → k < kids node.parts → slice_index new.now.places.now k < self.old.used }
+        ensures grown { Grown (state_of self.old) (state_of self.new) node (take (kids node.parts) new.now.places.now) (new_link new.now.places.now new.now.idents.now) (links node.parts) }
         ensures loans { SameLoans self.old self.new }
     {
         let at = self.used;
-        let count = link_count(&node.parts);
-        self.lay(links, count);
-        self.adopt(&links.places[..kid_count(&node.parts)], at);
+        let count = node.parts.links();
+        self.lay(new, count);
+        self.adopt(&new.places[..node.parts.kids()], at);
         self.write(at, node);
         self.used = at + 1;
         self.linked += count;

@@ -1,7 +1,7 @@
 //! The links of a node to be put, as they are written.
 ghost use Rattle.std.specs.Prelude.{◌≡◌, ℕ, ◌<◌, true, length, slice_index};
 ghost use Rattle.draft.specs.Drafts.{ident_in_range, ident_within};
-ghost use Rattle.draft.specs.Lists.{all};
+ghost use Rattle.std.specs.List.{list_all};
 
 use draft::drafts::RawIdent;
 use node::positions::Position;
@@ -13,8 +13,8 @@ pub(crate) struct NewLinks<'l> {
     pub(crate) places: &'l [usize],
     pub(crate) idents: &'l [RawIdent],
     ghost small: { (j : ℕ) → j < length places.now → slice_index places.now j < 65536 },
-    ghost range: { all ident_in_range idents.now ≡ true },
-    ghost within: { all (ident_within 65535) idents.now ≡ true },
+    ghost range: { list_all ident_in_range idents.now ≡ true },
+    ghost within: { list_all (ident_within 65535) idents.now ≡ true },
 }
 
 impl NewLinks<'_> {
@@ -36,7 +36,7 @@ impl NewLinks<'_> {
     {
         self.idents
             .get(k)
-            .and_then(|ident| ident.ident())
+            .and_then(|ident| Ident::try_from(*ident).ok())
             .unwrap_or(Ident {
                 name: Run { start: 0, len: 0 },
                 pos: Position::NONE,

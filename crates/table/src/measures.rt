@@ -1,6 +1,7 @@
 //! How high a node to be put would be, and how many lines it would have.
 ghost use Rattle.std.specs.Prelude.{◌≡◌, ℕ, suc, ◌<◌, min, length, slice_index};
-ghost use Rattle.table.specs.State.{all_lines, highest, kids, state_of, walked};
+ghost use Rattle.node.specs.Parts.{kids};
+ghost use Rattle.table.specs.State.{all_lines, highest, state_of, walked};
 
 use crate::children::Family;
 use crate::memory::Memory;

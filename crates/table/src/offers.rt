@@ -1,17 +1,17 @@
 //! What a put is handed, and the tests that look at nothing else.
 ghost use Rattle.std.specs.Prelude.{◌≡◌, true, drop, length, min};
-ghost use Rattle.draft.specs.Details.{kind_of};
 ghost use Rattle.draft.specs.Drafts.{kind_in_range};
 ghost use Rattle.draft.specs.Fits.{kids as draft_kids};
 ghost use Rattle.table.specs.Puts.{due_fit, due_range, due_text, extras_fit, keys_fit, kid_list, stored_due};
 ghost use Rattle.tree.specs.Answers.{passed_unless};
 
-use draft::drafts::{Draft, RawConstant, RawIdent, RawKind};
+use draft::drafts::{Draft, Lying, RawConstant, RawIdent};
+use draft::fits::all_placed;
 use draft::keys::keys_distinct;
-use draft::lists::{Below, HasPosition, InRange, Within, every};
-use kind::kinds::{ExprKind, Kind, StmtKind};
+use kind::kinds::Kind;
 use kind::shapes::Extra;
 use node::faults::{StoreFault, TableFault, TextFault};
+use node::positions::Ranged;
 
 /// A draft, with the places of its children and the numbers of the arms that it refers to, the names of its links,
 /// and how many values there are in the store.
@@ -24,23 +24,12 @@ pub(crate) struct Offer<'o> {
 }
 
 // Whether keys, where the kind has them, are told apart by their bytes.
-fn keys_fit(extra: Extra, text: &[u8], idents: &[RawIdent]) -> bool
+fn keys_fit(extra: Option<Extra>, text: &[u8], idents: &[RawIdent]) -> bool
     ensures { result ≡ keys_fit extra text.now idents.now }
 {
     match extra {
-        Extra::Keys => keys_distinct(text, idents),
-        Extra::None | Extra::Arms | Extra::Shared => true,
-    }
-}
-
-// The kind of a draft whose numbers are in range.
-fn kind_of(draft: &Draft) -> Kind
-    requires { kind_in_range draft.now.kind ≡ true }
-    ensures { result ≡ kind_of draft.now.kind }
-{
-    match draft.kind {
-        RawKind::Stmt(number) => Kind::Stmt(StmtKind::from_number(number).unwrap()),
-        RawKind::Expr(number) => Kind::Expr(ExprKind::from_number(number).unwrap()),
+        Some(Extra::Keys) => keys_distinct(text, idents),
+        Some(Extra::Arms | Extra::Shared) | None => true,
     }
 }
 
@@ -89,7 +78,7 @@ impl<'o> Offer<'o> {
     pub(crate) fn check_range(&self) -> Result<(), TableFault>
         ensures { result ≡ passed_unless (due_range self.now.draft.now self.now.idents.now) }
     {
-        if self.draft.in_range() && every(&InRange, self.idents) {
+        if self.draft.in_range() && self.idents.in_range() {
             Ok(())
         } else {
             Err(TableFault::Range(0))
@@ -100,7 +89,7 @@ impl<'o> Offer<'o> {
     pub(crate) fn check_text(&self, text: usize) -> Result<(), TableFault>
         ensures { result ≡ passed_unless (due_text text self.now.draft.now self.now.idents.now) }
     {
-        if self.draft.within(text) && every(&Within { text }, self.idents) {
+        if self.draft.within(text) && self.idents.within(text) {
             Ok(())
         } else {
             Err(TableFault::Text(TextFault { place: 0 }, 0))
@@ -108,14 +97,11 @@ impl<'o> Offer<'o> {
     }
 
     // Whether names in links, references and keys are what the kind asks for.
-    fn extras_fit(&self, extra: Extra, text: &[u8]) -> bool
+    fn extras_fit(&self, extra: Option<Extra>, text: &[u8]) -> bool
         ensures { result ≡ extras_fit extra text.now self.now.draft.now self.now.places.now self.now.idents.now }
     {
-        let below = Below {
-            arms: self.draft.arms,
-        };
-        every(&HasPosition, self.idents)
-            && every(&below, self.reference_places())
+        all_placed(self.idents)
+            && self.draft.arms_there(self.reference_places())
             && keys_fit(extra, text, self.idents)
     }
 
@@ -124,7 +110,7 @@ impl<'o> Offer<'o> {
         requires { kind_in_range self.now.draft.now.kind ≡ true }
         ensures { result ≡ passed_unless (due_fit text.now self.now.draft.now self.now.places.now self.now.idents.now) }
     {
-        let shape = kind_of(self.draft).shape();
+        let shape = Kind::try_from(self.draft.kind).unwrap().shape();
         if self.draft.fits(shape, self.places.len(), self.idents.len())
             && self.extras_fit(shape.extra, text)
         {

@@ -7,7 +7,7 @@ ghost use Rattle.table.specs.Told.{IsHeight, IsLines};
 ghost use Rattle.tree.specs.Answers.{told};
 ghost use Rattle.std.specs.Prelude.{◌≡◌, ◌+◌, ◌<◌, ◌≤◌, length, drop, nat_lt, if◌then◌else◌};
 
-use crate::children::{Family, kid_count, link_count, reference_count};
+use crate::children::Family;
 use crate::memory::Memory;
 use crate::tables::Table;
 use node::faults::TableFault;
@@ -65,7 +65,7 @@ impl Table<'_> {
         let parts = self.node(n)?.parts;
         let from = parts.start as usize;
         self.memory
-            .link(from, kid_count(&parts), k)
+            .link(from, parts.kids(), k)
             .map(|kid| kid.place as usize)
             .ok_or(TableFault::Missing(n))
     }
@@ -75,9 +75,9 @@ impl Table<'_> {
         ensures { result ≡ told (has_reference (table_state self.now) n k) (reference_at (table_state self.now) n k) (Missing n) }
     {
         let parts = self.node(n)?.parts;
-        let from = parts.start as usize + kid_count(&parts);
+        let from = parts.start as usize + parts.kids();
         self.memory
-            .link(from, reference_count(&parts), k)
+            .link(from, parts.references(), k)
             .map(|arm| arm.place as usize)
             .ok_or(TableFault::Missing(n))
     }
@@ -89,7 +89,7 @@ impl Table<'_> {
         let parts = self.node(n)?.parts;
         let from = parts.start as usize;
         self.memory
-            .link(from, link_count(&parts), k)
+            .link(from, parts.links(), k)
             .map(|link| link.ident)
             .ok_or(TableFault::Missing(n))
     }

@@ -1,20 +1,19 @@
 //! The record of a node to be put: its parts as they are kept, and whether its height and lines fit.
-ghost use Rattle.std.specs.Prelude.{◌≡◌, ◌+◌, ◌≤◌, ◌&&◌, nat_le};
-ghost use Rattle.node.specs.declared.records.Up.TheVariants.{Nothing};
+ghost use Rattle.std.specs.Prelude.{◌≡◌, ◌+◌, ◌≤◌, ◌&&◌, None, nat_le};
 ghost use Rattle.table.specs.Puts.{shared_of};
 
 use crate::measures::Measure;
 use draft::drafts::Draft;
 use kind::shapes::Extra;
-use node::records::{Details, Node, Parts, Up};
+use node::records::{Details, Node, Parts};
 
 // How many links shared names take.
-pub(crate) fn shared_count(extra: Extra, idents: usize) -> usize
+pub(crate) fn shared_count(extra: Option<Extra>, idents: usize) -> usize
     ensures { result ≡ shared_of extra idents }
 {
     match extra {
-        Extra::Shared => idents,
-        Extra::None | Extra::Keys | Extra::Arms => 0,
+        Some(Extra::Shared) => idents,
+        Some(Extra::Keys | Extra::Arms) | None => 0,
     }
 }
 
@@ -52,12 +51,12 @@ pub(crate) fn made(
     requires references { draft.now.values + draft.now.ranges ≤ 65535 }
     requires height { size.height ≤ 64 }
     requires lines { size.lines ≤ 65535 }
-    ensures { result ≡ record { details = details; parts = record { start = start; head = draft.now.head; body = draft.now.body; branch = draft.now.branch; arms = draft.now.arms; values = draft.now.values; ranges = draft.now.ranges; shared = shared }; up = Nothing; height = size.height; lines = size.lines } }
+    ensures { result ≡ record { details = details; parts = record { start = start; head = draft.now.head; body = draft.now.body; branch = draft.now.branch; arms = draft.now.arms; values = draft.now.values; ranges = draft.now.ranges; shared = shared }; up = None; height = size.height; lines = size.lines } }
 {
     Node {
         details,
         parts: narrow(draft, start, shared),
-        up: Up::Nothing,
+        up: None,
         height: size.height as u16,
         lines: size.lines as u16,
     }

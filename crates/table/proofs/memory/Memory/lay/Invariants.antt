@@ -5,4 +5,4 @@ use Rattle.table.proofs.memory.Memory.lay.Given as goal
 
 -- the links so far are written
 abbrev pub invariant-loop-k : goal.invariant-loop-k
-invariant-loop-k l = (j : ℕ) → j < l.k → get_or l.link-items j blank_link ≡ new_link l.links.places.now l.links.idents.now j
+invariant-loop-k l = (j : ℕ) → j < l.k → get_or l.link-items j blank_link ≡ new_link l.new.places.now l.new.idents.now j

@@ -1,9 +1,9 @@
-use Rattle.std.proofs.Common.{◌≡◌, length, is_some, sym, ap, ◌∙◌, arith}
+use Rattle.std.proofs.Common.{◌≡◌, length, sym, ap, ◌∙◌, arith}
 use Rattle.std.proofs.lemmas.Result.{err_from_is_err_and}
 use Rattle.draft.specs.Details.{details_of}
 use Rattle.table.specs.Puts.{or_else, due_size, due_room}
 use Rattle.table.specs.Reads.{table_state}
-use Rattle.table.proofs.Fitting.{details_kept, ready, shared_is, room_is, refusal_is, size_refused, room_there, size_there, made_is}
+use Rattle.table.proofs.Fitting.{details_there, details_are, is_keepable, ready, shared_is, room_is, refusal_is, size_refused, room_there, size_there, made_is}
 use Rattle.table.proofs.Passed.{passed_none, passed_some, before_passed}
 use Rattle.table.proofs.tables.Table.accept.Goals as goal
 
@@ -11,23 +11,21 @@ pub unwrap-details-requires : goal.unwrap-details-requires
 unwrap-details-requires c =
     let t = c.args.self.now in
     let o = c.args.offer.now in
-    ap is_some (details_kept t o (before_passed t o c.in_ok-check_before.ensures) c.details.result c.details.ensures)
+    details_there o.draft.now c.details.result (is_keepable t o (before_passed t o c.in_ok-check_before.ensures)) c.details.ensures
 
 pub sized-requires : goal.sized-requires
 sized-requires c =
     let t = c.args.self.now in
     let o = c.args.offer.now in
     let none = before_passed t o c.in_ok-check_before.ensures in
-    let some = details_kept t o none c.details.result c.details.ensures in
-    record { ready = ready t o none; details = let is = c.unwrap-details.ensures in cc (some, is) }
+    record { ready = ready t o none; details = details_are o.draft.now c.details.result c.unwrap-details.result c.unwrap-details.ensures c.details.ensures }
 
 pub made-requires : goal.made-requires
 made-requires c =
     let t = c.args.self.now in
     let o = c.args.offer.now in
     let none = before_passed t o c.in_ok-check_before.ensures in
-    let some = details_kept t o none c.details.result c.details.ensures in
-    let details : c.unwrap-details.result ≡ details_of o.draft.now = let is = c.unwrap-details.ensures in cc (some, is) in
+    let details : c.unwrap-details.result ≡ details_of o.draft.now = details_are o.draft.now c.details.result c.unwrap-details.result c.unwrap-details.ensures c.details.ensures in
     let shared = shared_is t o none c.unwrap-details.result c.shape.result c.shared_count-shared.result details c.shape.ensures c.shared_count-shared.ensures in
     let size = c.in_ok-size.ensures in
     let there = room_there t o none (sym (room_is t o none c.shared_count-shared.result shared) ∙ passed_none _ c.in_ok-check_room.ensures) in
@@ -48,8 +46,7 @@ returns c =
     let t = c.args.self.now in
     let o = c.args.offer.now in
     let none = before_passed t o c.in_ok-check_before.ensures in
-    let some = details_kept t o none c.details.result c.details.ensures in
-    let details : c.unwrap-details.result ≡ details_of o.draft.now = let is = c.unwrap-details.ensures in cc (some, is) in
+    let details : c.unwrap-details.result ≡ details_of o.draft.now = details_are o.draft.now c.details.result c.unwrap-details.result c.unwrap-details.ensures c.details.ensures in
     let shared = shared_is t o none c.unwrap-details.result c.shape.result c.shared_count-shared.result details c.shape.ensures c.shared_count-shared.ensures in
     let size = c.in_ok-size.ensures in
     let room = sym (room_is t o none c.shared_count-shared.result shared) ∙ passed_none _ c.in_ok-check_room.ensures in (
@@ -77,8 +74,7 @@ returns-in_err-check_room c =
     let t = c.args.self.now in
     let o = c.args.offer.now in
     let none = before_passed t o c.in_ok-check_before.ensures in
-    let some = details_kept t o none c.details.result c.details.ensures in
-    let details : c.unwrap-details.result ≡ details_of o.draft.now = let is = c.unwrap-details.ensures in cc (some, is) in
+    let details : c.unwrap-details.result ≡ details_of o.draft.now = details_are o.draft.now c.details.result c.unwrap-details.result c.unwrap-details.ensures c.details.ensures in
     let shared = shared_is t o none c.unwrap-details.result c.shape.result c.shared_count-shared.result details c.shape.ensures c.shared_count-shared.ensures in
     let p = err_from_is_err_and c.from_residual-in_err-check_room.result c.from_residual-in_err-check_room.ensures.1 in
     rw (p.1, p.2) (refusal_is t o none c.in_ok-size.ensures.0 ∙ sym (room_is t o none c.shared_count-shared.result shared) ∙ passed_some _ _ c.in_err-check_room.ensures)

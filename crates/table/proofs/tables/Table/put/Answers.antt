@@ -1,6 +1,7 @@
 use Rattle.std.proofs.Common.{refl, ap, rules, arith}
+use Rattle.node.specs.Parts.{kids, links}
 use Rattle.table.specs.Facts.{Sound}
-use Rattle.table.specs.State.{state_of, kids, total}
+use Rattle.table.specs.State.{state_of}
 use Rattle.table.specs.declared.offers.Offer.{Offer}
 use Rattle.table.proofs.Fitting.{before, ready, parts_fitting, idents_range, idents_within, room_left, places_small, grown_put, sound_put}
 use Rattle.table.proofs.tables.Table.put.Goals as goal
@@ -19,7 +20,7 @@ grow-requires c =
     let accepted = c.in_ok-node.ensures.0 in
     let parts = ap (λ n. n.parts) c.in_ok-node.ensures.1 in
     let held = ap kids parts in
-    let links = ap total parts in
+    let count = ap links parts in
     let room = room_left t o accepted in
     let fit = parts_fitting t o (before t o accepted) in
     record {
