@@ -43,6 +43,12 @@ walked_held f d p arms i lt = ⊎_elim near far (cases_lt i (direct d p))
           getD_walked_arms f d p i more (omega (arith, length_walked f d p)),
         )
 
+pub walked_below : (n : ℕ) (f : ℕ → ℕ) (d : Details) (p : Parts) → ((k : ℕ) → k < length (referred f d p) → get_or (referred f d p) k 0 < p.arms) → ((k : ℕ) → k < kids p → f k < n)
+    → (i x : ℕ) → x ≡ get_or (walked f d p) i 0 → i < child_count d p → x < n
+walked_below n f d p arms low i x is lt =
+    let held = walked_held f d p arms i (omega (arith, length_walked f d p)) in
+    omega (arith, low held.0 held.1, held.2)
+
 module _ (f g : ℕ → ℕ) (d : Details) (p : Parts) (same : (k : ℕ) → k < kids p + references p → f k ≡ g k) where
   pub referred_agrees : referred f d p ≡ referred g d p
   referred_agrees = ap (λ x. x ++ default_of d.second) (named_agrees f g (kids p) (references p) (λ k low high. same k high))

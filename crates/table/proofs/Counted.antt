@@ -3,7 +3,8 @@ use Rattle.std.proofs.Common.{◌≡◌, ℕ, zero, suc, ◌<◌, ◌≤◌, Boo
 use Rattle.std.proofs.lemmas.List.{length-append, length-map, get_or_default}
 use Rattle.std.proofs.lemmas.Bool.{cases_lt, ltb-true, lt-ltb}
 use Rattle.tree.proofs.Listed.{lines, branches, listed}
-use Rattle.tree.specs.Lines.{Follow, Numbers, TreeLaw, child_of}
+use Rattle.tree.specs.Lines.{Follow, Numbers, child_of}
+use Rattle.table.specs.Trees.{table_law}
 use Rattle.table.specs.Facts.{Sound, known}
 use Rattle.table.specs.State.{State, node_at, children, highest, all_lines}
 use Rattle.table.specs.Told.{Longest, IsLines, IsHeight}
@@ -29,55 +30,50 @@ tallest s c (d ∷ cs) = pick (tallest s d cs) (cases_lt (node_at s c).height (h
     pick r (inl less) = (suc r.0, omega (arith, r.1), r.2 ∙ omega arith)
     pick r (inr more) = (0, omega arith, omega arith)
 
-module _ (s : State) (sound : Sound s) where
+module _ (t : Table) where
+  abbrev s : State
+  s = table_state t
+
   child : (n k : ℕ) → n < s.used → k < length (children s n) → get_or (children s n) k 0 < s.used
-  child n k lt within = subst (λ x. x < s.used) (get_or_default (children s n) k n 0 within) (sound.walked_known n k (lt, within))
+  child n k lt within = subst (λ x. x < s.used) (get_or_default (children s n) k n 0 within) (t.walked_known n k (lt, within))
 
   lower : (n k : ℕ) → n < s.used → k < length (children s n) → (node_at s (get_or (children s n) k 0)).height < (node_at s n).height
-  lower n k lt within = subst (λ x. (node_at s x).height < (node_at s n).height) (get_or_default (children s n) k n 0 within) (sound.walked_lower n k (lt, within))
+  lower n k lt within = subst (λ x. (node_at s x).height < (node_at s n).height) (get_or_default (children s n) k n 0 within) (t.walked_lower n k (lt, within))
 
   length_lines : (h n : ℕ) → n < s.used → (node_at s n).height ≤ h → length (lines (children s) h n) ≡ (node_at s n).lines
-  length_lines zero n lt le = absurd (omega (arith, sound.heights n lt))
+  length_lines zero n lt le = absurd (omega (arith, t.heights n lt))
   length_lines (suc h) n lt le =
       ap suc (length_branches s (lines (children s) h) 0 (children s n) (λ k within. length_lines h (get_or (children s n) k 0) (child n k lt within) (omega (arith, lower n k lt within))))
-      ∙ sym (sound.lines n lt)
-
-  law : TreeLaw (known s) (λ n. (node_at s n).height) (children s)
-  law = record {
-    kept = λ n i k within. lt-ltb _ _ (sound.walked_known n i (ltb-true n s.used k, within));
-    low = λ n k. omega (arith, sound.heights n (ltb-true n s.used k));
-    high = λ n k. sound.heights_fit n (ltb-true n s.used k);
-    falls = λ n i k within. sound.walked_lower n i (ltb-true n s.used k, within);
-  }
+      ∙ sym (t.lines n lt)
 
   pub numbered : (n : ℕ) → n < s.used → Numbers (children s) n (node_at s n).lines
-  numbered n lt = (lines (children s) 64 n, listed (children s) law 64 n (lt-ltb n s.used lt) (sound.heights_fit n lt), sym (length_lines 64 n lt (sound.heights_fit n lt)))
+  numbered n lt = (lines (children s) 64 n, listed (children s) (table_law t) 64 n (lt-ltb n s.used lt) (t.heights_fit n lt), sym (length_lines 64 n lt (t.heights_fit n lt)))
 
   bounded : (h n : ℕ) → n < s.used → (node_at s n).height ≤ h → (line : List ℕ) → Follow (children s) n line → suc (length line) ≤ (node_at s n).height
-  bounded zero n lt le line f = absurd (omega (arith, sound.heights n lt))
-  bounded (suc h) n lt le [] f = omega (arith, sound.heights n lt)
+  bounded zero n lt le line f = absurd (omega (arith, t.heights n lt))
+  bounded (suc h) n lt le [] f = omega (arith, t.heights n lt)
   bounded (suc h) n lt le (i ∷ line) f =
       let c = child_of (children s) n i in
-      let below = sound.walked_lower n i (lt, f.0) in
-      omega (arith, bounded h c (sound.walked_known n i (lt, f.0)) (omega arith) line f.1)
+      let below = t.walked_lower n i (lt, f.0) in
+      omega (arith, bounded h c (t.walked_known n i (lt, f.0)) (omega arith) line f.1)
 
   reach : (h n : ℕ) → n < s.used → (node_at s n).height ≤ h → (line : List ℕ) × Follow (children s) n line × (suc (length line) ≡ (node_at s n).height)
-  reach zero n lt le = absurd (omega (arith, sound.heights n lt))
+  reach zero n lt le = absurd (omega (arith, t.heights n lt))
   reach (suc h) n lt le = go (children s n) refl (λ c low less. reach h c low less)
     where
       go : (cs : List ℕ) → children s n ≡ cs → ((c : ℕ) → c < s.used → (node_at s c).height ≤ h → (line : List ℕ) × Follow (children s) c line × (suc (length line) ≡ (node_at s c).height))
           → (line : List ℕ) × Follow (children s) n line × (suc (length line) ≡ (node_at s n).height)
-      go [] is down = ([], tt, sym (sound.heights n lt ∙ ap (λ xs. suc (highest s xs)) is))
+      go [] is down = ([], tt, sym (t.heights n lt ∙ ap (λ xs. suc (highest s xs)) is))
       go (c ∷ cs) is down =
-          let t = tallest s c cs in
-          let within : t.0 < length (children s n) = subst (λ xs. t.0 < length xs) (sym is) t.1 in
-          let same : child_of (children s) n t.0 ≡ get_or (c ∷ cs) t.0 0 = get_or_default (children s n) t.0 n 0 within ∙ ap (λ xs. get_or xs t.0 0) is in
-          let high = sound.heights n lt ∙ ap (λ xs. suc (highest s xs)) is in
-          let r = down (child_of (children s) n t.0) (sound.walked_known n t.0 (lt, within)) (omega (arith, sound.walked_lower n t.0 (lt, within))) in
-          (t.0 ∷ r.0, (within, r.1), omega (arith, r.2, ap (λ x. (node_at s x).height) same, t.2))
+          let top = tallest s c cs in
+          let within : top.0 < length (children s n) = subst (λ xs. top.0 < length xs) (sym is) top.1 in
+          let same : child_of (children s) n top.0 ≡ get_or (c ∷ cs) top.0 0 = get_or_default (children s n) top.0 n 0 within ∙ ap (λ xs. get_or xs top.0 0) is in
+          let high = t.heights n lt ∙ ap (λ xs. suc (highest s xs)) is in
+          let r = down (child_of (children s) n top.0) (t.walked_known n top.0 (lt, within)) (omega (arith, t.walked_lower n top.0 (lt, within))) in
+          (top.0 ∷ r.0, (within, r.1), omega (arith, r.2, ap (λ x. (node_at s x).height) same, top.2))
 
   pub longest : (n : ℕ) → n < s.used → Longest s n (node_at s n).height
-  longest n lt = record { most = bounded 64 n lt (sound.heights_fit n lt); reached = reach 64 n lt (sound.heights_fit n lt) }
+  longest n lt = record { most = bounded 64 n lt (t.heights_fit n lt); reached = reach 64 n lt (t.heights_fit n lt) }
 
 -- all that always holds of a table, as one fact
 pub table_sound : (t : Table) → Sound (table_state t)
@@ -103,19 +99,16 @@ table_sound t = record {
 
 -- what a table tells of a node is so
 module _ (t : Table) (n : ℕ) (r : Result ℕ TableFault) where
-  abbrev s : State
-  s = table_state t
-
-  pub lines_told : r ≡ told (known s n) (node_at s n).lines (Missing n) → IsLines s n r
-  lines_told is = subst (IsLines s n) (sym is) (cases (known s n) refl)
+  pub lines_told : r ≡ told (known (table_state t) n) (node_at (table_state t) n).lines (Missing n) → IsLines (table_state t) n r
+  lines_told is = subst (IsLines (table_state t) n) (sym is) (cases (known (table_state t) n) refl)
     where
-      cases : (b : Bool) → known s n ≡ b → IsLines s n (told b (node_at s n).lines (Missing n))
-      cases true k = numbered s (table_sound t) n (ltb-true n s.used k)
+      cases : (b : Bool) → known (table_state t) n ≡ b → IsLines (table_state t) n (told b (node_at (table_state t) n).lines (Missing n))
+      cases true k = numbered t n (ltb-true n t.memory.used k)
       cases false k = tt
 
-  pub height_told : r ≡ told (known s n) (node_at s n).height (Missing n) → IsHeight s n r
-  height_told is = subst (IsHeight s n) (sym is) (cases (known s n) refl)
+  pub height_told : r ≡ told (known (table_state t) n) (node_at (table_state t) n).height (Missing n) → IsHeight (table_state t) n r
+  height_told is = subst (IsHeight (table_state t) n) (sym is) (cases (known (table_state t) n) refl)
     where
-      cases : (b : Bool) → known s n ≡ b → IsHeight s n (told b (node_at s n).height (Missing n))
-      cases true k = longest s (table_sound t) n (ltb-true n s.used k)
+      cases : (b : Bool) → known (table_state t) n ≡ b → IsHeight (table_state t) n (told b (node_at (table_state t) n).height (Missing n))
+      cases true k = longest t n (ltb-true n t.memory.used k)
       cases false k = tt

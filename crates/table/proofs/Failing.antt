@@ -17,9 +17,6 @@ module _ (test : List ℕ → ℕ → Bool) (places : List ℕ) (k : ℕ) (withi
   pub passes : test (take k places) (get_or places k 0) ≡ true → first_failing test (take (k + 1) places) (drop (k + 1) places) ≡ first_failing test (take k places) (drop k places)
   passes yes' = sym (step ∙ cond-true (test (take k places) (get_or places k 0)) _ _ yes')
 
-  pub fails : test (take k places) (get_or places k 0) ≡ false → Some (get_or places k 0) ≡ first_failing test (take k places) (drop k places)
-  fails no' = sym (step ∙ cond-false (test (take k places) (get_or places k 0)) _ _ no')
-
 -- where a test looks at no other place, the first that fails it is what a search finds
 pub find_failing : (test : ℕ → Bool) (done xs : List ℕ) → find (λ c. not (test c)) xs ≡ first_failing (λ done c. test c) done xs
 find_failing test done [] = refl
@@ -27,9 +24,6 @@ find_failing test done (x ∷ xs) = ⊎_elim
     (λ yes'. cond-false (not (test x)) _ _ (ap not yes') ∙ find_failing test (done ++ x ∷ []) xs ∙ sym (cond-true (test x) _ _ yes'))
     (λ no'. cond-true (not (test x)) _ _ (ap not no') ∙ sym (cond-false (test x) _ _ no'))
     (cases_Bool (test x))
-
-pub none_fails : (test : List ℕ → ℕ → Bool) (places : List ℕ) (k : ℕ) → length places ≤ k → None ≡ first_failing test (take k places) (drop k places)
-none_fails test places k past = sym (at_drop_all (first_failing test (take k places)) places k past)
 
 pub some_none : {X : Type 0} {x : X} → Some x ≡ None → ⊥
 some_none e = let z : ◌≡◌ {A = ℕ} 0 1 = cc in omega arith

@@ -2,9 +2,11 @@
 ghost use Rattle.std.specs.Prelude.{◌≡◌, ◌<◌, None, length, not};
 ghost use Rattle.draft.specs.Fits.{handed};
 ghost use Rattle.std.specs.List.{find};
+ghost use Rattle.kind.specs.Kinds.{is_stmt};
 ghost use Rattle.table.specs.Facts.{known};
 ghost use Rattle.table.specs.Puts.{due_before, due_held, due_known, due_place};
 ghost use Rattle.table.specs.Reads.{table_state};
+ghost use Rattle.table.specs.State.{node_at};
 ghost use Rattle.table.specs.Tests.{is_free};
 ghost use Rattle.tree.specs.Answers.{passed_unless};
 
@@ -22,6 +24,14 @@ impl Table<'_> {
     {
         let up = self.memory.nodes[place].up;
         up.is_none()
+    }
+
+    // Whether a node is a statement.
+    fn is_stmt(&self, place: usize) -> bool
+        requires { place < (table_state self.now).used }
+        ensures { result ≡ is_stmt (node_at (table_state self.now) place).details.kind }
+    {
+        self.memory.nodes[place].details.kind.is_stmt()
     }
 
     // The first place that names no node.
@@ -51,8 +61,7 @@ impl Table<'_> {
         let statements = draft.head..draft.head + draft.body + draft.branch;
         let kids = offer.kid_places();
         for (k, kid) in kids.iter().enumerate() {
-            let is_stmt = self.memory.nodes[*kid].details.kind.is_stmt();
-            if is_stmt != statements.contains(&k) {
+            if self.is_stmt(*kid) != statements.contains(&k) {
                 return Err(TableFault::Misfit(*kid));
             }
         }

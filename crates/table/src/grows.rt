@@ -8,16 +8,6 @@ use crate::links::NewLinks;
 use crate::memory::Memory;
 use node::records::{Node, Up};
 
-// A node as it is when it stands under another.
-fn under(node: Node, up: Up) -> Node
-    ensures { result ≡ with_up (Some up) node }
-{
-    Node {
-        up: Some(up),
-        ..node
-    }
-}
-
 impl Memory<'_> {
     // Writes the links of a node behind those in use.
     fn lay(&mut self, new: &NewLinks<'_>, count: usize)
@@ -34,16 +24,6 @@ impl Memory<'_> {
         }
     }
 
-    // All writes of records go through this function.
-    pub(crate) fn write(&mut self, at: usize, node: Node)
-        requires { at < length self.old.nodes.now }
-        ensures same { (self.new.links ≡ self.old.links) × (self.new.used ≡ self.old.used) × (self.new.linked ≡ self.old.linked) }
-        ensures loans { SameLoans self.old self.new }
-        ensures nodes { self.new.nodes.now ≡ slice_set self.old.nodes.now at node }
-    {
-        self.nodes[at] = node;
-    }
-
     // Lets some places stand under a node.
     fn adopt(&mut self, kids: &[usize], p: usize)
         requires known { (k : ℕ) → k < length kids.now → slice_index kids.now k < length self.old.nodes.now }
@@ -53,9 +33,9 @@ impl Memory<'_> {
         ensures long { length self.new.nodes.now ≡ length self.old.nodes.now }
         ensures nodes { (j : ℕ) → j < length self.old.nodes.now → slice_index_or self.new.nodes.now j blank ≡ adopted (state_of self.old) kids.now p j }
     {
+        let up = Some(Up::Node(p as u16));
         for kid in kids {
-            let node = under(self.nodes[*kid], Up::Node(p as u16));
-            self.write(*kid, node);
+            self.nodes[*kid].up = up;
         }
     }
 
@@ -73,7 +53,7 @@ impl Memory<'_> {
         let count = node.parts.links();
         self.lay(new, count);
         self.adopt(&new.places[..node.parts.kids()], at);
-        self.write(at, node);
+        self.nodes[at] = node;
         self.used = at + 1;
         self.linked += count;
     }

@@ -1,23 +1,20 @@
 use Rattle.std.proofs.Common.{◌<◌, ℕ, length, get_or, ap, rules, arith}
 use Rattle.std.proofs.lemmas.List.{at_drop_more}
 use Rattle.table.specs.State.{state_of, walked, highest, all_lines, node_at}
-use Rattle.table.proofs.Agree.{walked_held}
+use Rattle.table.proofs.Agree.{walked_below}
 use Rattle.table.proofs.Found.{length_walked}
 use Rattle.table.proofs.memory.Memory.measure.Goals as goal
 
 pub bounds-self-child : goal.bounds-self-child
 bounds-self-child c =
     let f = c.args.family.now in
-    let names : ℕ → ℕ = λ k. get_or f.named.now k 0 in
-    let held = walked_held names f.details.now f.parts.now f.arms c.loop-i.i (omega (arith, length_walked names f.details.now f.parts.now)) in
-    omega (arith, c.child.ensures 0, held.2, c.requires held.0 held.1)
+    walked_below _ (λ k. get_or f.named.now k 0) f.details.now f.parts.now f.arms c.requires c.loop-i.i c.child.result (c.child.ensures 0) (omega (arith, c.child_count-i-end.ensures.value))
 
 pub offset_bounds-self-child : goal.offset_bounds-self-child
 offset_bounds-self-child c =
     let f = c.args.family.now in
-    let names : ℕ → ℕ = λ k. get_or f.named.now k 0 in
-    let held = walked_held names f.details.now f.parts.now f.arms c.loop-i.i (omega (arith, length_walked names f.details.now f.parts.now)) in
-    let inside : c.child.result < length c.args.self.now.nodes.now = omega (arith, c.child.ensures 0, held.2, c.requires held.0 held.1) in
+    let inside : c.child.result < length c.args.self.now.nodes.now =
+    walked_below _ (λ k. get_or f.named.now k 0) f.details.now f.parts.now f.arms c.requires c.loop-i.i c.child.result (c.child.ensures 0) (omega (arith, c.child_count-i-end.ensures.value)) in
     search rules
 
 pub loop-i-preserved : goal.loop-i-preserved
