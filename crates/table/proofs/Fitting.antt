@@ -19,6 +19,7 @@ use Rattle.node.specs.declared.positions.OutOfRange.{OutOfRange}
 use Rattle.node.specs.declared.positions.RawPosition.{RawPosition}
 use Rattle.node.specs.declared.records.Details.{Details}
 use Rattle.node.specs.declared.records.Node.{Node}
+use Rattle.node.specs.declared.records.Parts.{Parts}
 use Rattle.node.specs.declared.faults.TableFault.{TableFault}
 use Rattle.node.specs.declared.faults.TableFault.TheVariants.{Full}
 use Rattle.kind.specs.declared.shapes.Shape.{Shape}
@@ -238,11 +239,9 @@ module _ (t : Table) (o : Offer) (none : due_before (table_state t) t.text.now o
   pub size_there : due_size s d places ≡ None → (height_of s d places ≤ 64) × (lines_of s d places ≤ 65535)
   size_there e = let p = and_parts _ _ (unless_none _ _ e) in (leb-true _ _ p.0, leb-true _ _ p.1)
 
-  pub made_is : (x : Details) (k h l : ℕ) (n : Node)
-      → n ≡ record { details = x; parts = record { start = s.linked; head = d.head; body = d.body; branch = d.branch; arms = d.arms; values = d.values; ranges = d.ranges; shared = k }; up = None; height = h; lines = l }
-      → x ≡ details_of d → k ≡ shared → h ≡ height_of s d places → l ≡ lines_of s d places → n ≡ node_of s d places (length idents)
-  made_is x k h l n is p q r t =
-      is ∙ (λ i. record { details = p i; parts = record { start = s.linked; head = d.head; body = d.body; branch = d.branch; arms = d.arms; values = d.values; ranges = d.ranges; shared = q i }; up = None; height = r i; lines = t i })
+  pub parts_are : (p : Parts) (k : ℕ) → p ≡ record { start = s.linked; head = d.head; body = d.body; branch = d.branch; arms = d.arms; values = d.values; ranges = d.ranges; shared = k } → k ≡ shared → p ≡ parts_of d s.linked (length idents)
+  parts_are p k is same =
+      is ∙ (λ i. record { start = s.linked; head = d.head; body = d.body; branch = d.branch; arms = d.arms; values = d.values; ranges = d.ranges; shared = same i })
 
   same_true : (x y : Bool) → same x y ≡ true → x ≡ y
   same_true true y e = sym e

@@ -10,7 +10,7 @@ ghost use Rattle.tree.specs.Answers.{passed_unless};
 use crate::children::Family;
 use crate::measures::Measure;
 use crate::offers::Offer;
-use crate::sizes::{made, narrow, shared_count};
+use crate::sizes::{narrow, shared_count};
 use crate::tables::Table;
 use node::faults::TableFault;
 use node::records::{Details, Node};
@@ -64,6 +64,12 @@ impl Table<'_> {
         let size = self.sized(offer, &details)?;
         let shared = shared_count(details.kind.shape().extra, offer.idents.len());
         self.check_room(offer.places.len(), shared)?;
-        Ok(made(draft, details, self.memory.linked, shared, size))
+        Ok(Node {
+            details,
+            parts: narrow(draft, self.memory.linked, shared),
+            up: None,
+            height: size.height as u16,
+            lines: size.lines as u16,
+        })
     }
 }

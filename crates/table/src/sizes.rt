@@ -37,31 +37,6 @@ pub(crate) fn narrow(draft: &Draft, start: usize, shared: usize) -> Parts
     }
 }
 
-// The record of a node to be put, which stands under nothing.
-pub(crate) fn made(
-    draft: &Draft,
-    details: Details,
-    start: usize,
-    shared: usize,
-    size: Measure,
-) -> Node
-    requires start { start ≤ 65535 }
-    requires shared { shared ≤ 65535 }
-    requires kids { draft.now.head + draft.now.body + draft.now.branch + draft.now.arms ≤ 65535 }
-    requires references { draft.now.values + draft.now.ranges ≤ 65535 }
-    requires height { size.height ≤ 64 }
-    requires lines { size.lines ≤ 65535 }
-    ensures { result ≡ record { details = details; parts = record { start = start; head = draft.now.head; body = draft.now.body; branch = draft.now.branch; arms = draft.now.arms; values = draft.now.values; ranges = draft.now.ranges; shared = shared }; up = None; height = size.height; lines = size.lines } }
-{
-    Node {
-        details,
-        parts: narrow(draft, start, shared),
-        up: None,
-        height: size.height as u16,
-        lines: size.lines as u16,
-    }
-}
-
 impl Measure {
     // Whether a node may be so high and have so many lines.
     pub(crate) fn fits(self) -> bool

@@ -1,9 +1,9 @@
-use Rattle.std.proofs.Common.{◌≡◌, length, sym, ap, ◌∙◌, arith}
+use Rattle.std.proofs.Common.{◌≡◌, length, None, sym, ap, ◌∙◌, arith}
 use Rattle.std.proofs.lemmas.Result.{err_from_is_err_and}
 use Rattle.draft.specs.Details.{details_of}
 use Rattle.table.specs.Puts.{or_else, due_size, due_room}
 use Rattle.table.specs.Reads.{table_state}
-use Rattle.table.proofs.Fitting.{details_there, details_are, is_keepable, ready, shared_is, room_is, refusal_is, size_refused, room_there, size_there, made_is}
+use Rattle.table.proofs.Fitting.{details_there, details_are, is_keepable, ready, shared_is, room_is, refusal_is, size_refused, room_there, parts_are}
 use Rattle.table.proofs.Passed.{passed_none, passed_some, before_passed}
 use Rattle.table.proofs.tables.Table.accept.Goals as goal
 
@@ -20,8 +20,8 @@ sized-requires c =
     let none = before_passed t o c.in_ok-check_before.ensures in
     record { ready = ready t o none; details = details_are o.draft.now c.details.result c.unwrap-details.result c.unwrap-details.ensures c.details.ensures }
 
-pub made-requires : goal.made-requires
-made-requires c =
+pub narrow-requires : goal.narrow-requires
+narrow-requires c =
     let t = c.args.self.now in
     let o = c.args.offer.now in
     let none = before_passed t o c.in_ok-check_before.ensures in
@@ -29,7 +29,6 @@ made-requires c =
     let shared = shared_is t o none c.unwrap-details.result c.shape.result c.shared_count-shared.result details c.shape.ensures c.shared_count-shared.ensures in
     let size = c.in_ok-size.ensures in
     let there = room_there t o none (sym (room_is t o none c.shared_count-shared.result shared) ∙ passed_none _ c.in_ok-check_room.ensures) in
-    let small = size_there t o none size.0 in
     let fitting = ready t o none in
     let links = t.links_fit in
     record {
@@ -37,8 +36,6 @@ made-requires c =
       shared = omega (arith, there.1, shared);
       kids = omega (arith, fitting.few);
       references = omega (arith, there.1, shared);
-      height = omega (arith, size.1, small.0);
-      lines = omega (arith, size.2, small.1);
     }
 
 pub returns : goal.returns
@@ -51,7 +48,7 @@ returns c =
     let size = c.in_ok-size.ensures in
     let room = sym (room_is t o none c.shared_count-shared.result shared) ∙ passed_none _ c.in_ok-check_room.ensures in (
       refusal_is t o none size.0 ∙ room,
-      made_is t o none c.unwrap-details.result c.shared_count-shared.result c.in_ok-size.size.height c.in_ok-size.size.lines c.made.result c.made.ensures details shared size.1 size.2,
+      (λ i. record { details = details i; parts = parts_are t o none c.narrow.result c.shared_count-shared.result c.narrow.ensures shared i; up = None; height = size.1 i; lines = size.2 i }),
     )
 
 pub returns-in_err-check_before : goal.returns-in_err-check_before
