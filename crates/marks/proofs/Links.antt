@@ -7,11 +7,12 @@ use Rattle.node.specs.declared.records.Node.{Node}
 use Rattle.node.specs.declared.records.Parts.{Parts}
 use Rattle.table.specs.Facts.{KidsKnown, KidsLower, ArmsThere, kid, known}
 use Rattle.table.specs.Finds.{run_from, run_count}
-use Rattle.table.specs.Reads.{reference_at, table_state}
+use Rattle.table.specs.Reads.{reference_at}
 use Rattle.table.specs.State.{State, node_at, links_of, named, references_of, references, referred, default_of, through, value_of, arms_from, kids}
-use Rattle.table.specs.declared.tables.Table.{Table}
 use Rattle.table.proofs.Agree.{run_within}
 use Rattle.table.proofs.Found.{length_named, getD_named, walked_run, length_through, getD_through, length_referred, getD_referred_left, getD_referred_right, one_default}
+use Rattle.marks.specs.Asks.{state, record_of}
+use Rattle.marks.specs.declared.asks.KnownNode.{KnownNode}
 use Rattle.marks.specs.Marks.{counted_blocks, counted_of, counted}
 use Rattle.marks.specs.Runs.{counted_count}
 
@@ -67,65 +68,44 @@ module _ (f : ℕ → ℕ) (d : Details) (p : Parts) where
       ∙ ap (λ x. get_or defaults x 0) first
       ∙ get_or-map (value_of f p) (default_of d.second) 0 0 0 (omega (arith, one_default d.second))
 
-  -- a counted child is one of those held
-  pub counted_held : ((k : ℕ) → k < length (referred f d p) → get_or (referred f d p) k 0 < p.arms)
-      → (i : ℕ) → i < length (counted_of f d p) → (k : ℕ) × (k < kids p) × (get_or (counted_of f d p) i 0 ≡ f k)
-  counted_held there i lt = ⊎_elim near (λ far. ⊎_elim (arm far) (last far) (cases_lt (i - direct) (references p + references p))) (cases_lt i direct)
-    where
-      near : i < direct → (k : ℕ) × (k < kids p) × (get_or (counted_of f d p) i 0 ≡ f k)
-      near less = (from + i, omega (arith, run_within (counted_blocks d.kind) p), counted_direct i less)
+-- where the code finds the arms and the counted children of a known node
+module _ (k : KnownNode) where
+  abbrev s : State
+  s = state k
 
-      arm : direct ≤ i → i - direct < references p + references p → (k : ℕ) × (k < kids p) × (get_or (counted_of f d p) i 0 ≡ f k)
-      arm ge less =
-          let j = (i - direct) / 2 in
-          let low = there j (omega (arith, length_referred f d p)) in
-          let is = getD_referred_left f d p j (omega arith) in
-          (arms_from p + f (kids p + j) + f (kids p + j) + (i - direct) % 2, omega arith, counted_arm i ge less)
+  abbrev node : Node
+  node = record_of k
 
-      last : direct ≤ i → references p + references p ≤ i - direct → (k : ℕ) × (k < kids p) × (get_or (counted_of f d p) i 0 ≡ f k)
-      last ge more =
-          let a = get_or (default_of d.second) 0 0 in
-          let some : references p < length (referred f d p) = omega (arith, length_referred f d p, length_counted) in
-          let low = there (references p) some in
-          let is : get_or (referred f d p) (references p) 0 ≡ a = getD_referred_right f d p (references p) (omega arith) ∙ ap (λ x. get_or (default_of d.second) x 0) (omega arith) in
-          (arms_from p + a + a + 1, omega arith, counted_default i ge more (omega (arith, length_counted)))
+  abbrev runs : ℕ
+  runs = run_count (counted_blocks node.details.kind) node.parts
 
--- a counted child of a known node is known and of lower rank
-module _ (s : State) (n i : ℕ) (there : ArmsThere s) (here : n < s.used) (inside : i < length (counted s n)) where
-  one_held : (k : ℕ) × (k < kids (node_at s n).parts) × (get_or (counted s n) i n ≡ kid s n k)
-  one_held =
-      let h = counted_held (links_of s (node_at s n)) (node_at s n).details (node_at s n).parts (λ k lt. there n k (here, lt)) i inside in
-      (h.0, h.1, get_or_default (counted s n) i n 0 inside ∙ h.2)
+  here : k.n < s.used
+  here = ltb-true k.n s.used k.is_known
 
-  pub counted_known : KidsKnown s → get_or (counted s n) i n < s.used
-  counted_known all = let h = one_held in omega (arith, h.2, all n h.0 (here, h.1))
+  pub counted_length : length (counted s k.n) ≡ counted_count node.details node.parts
+  counted_length = length_counted (links_of s node) node.details node.parts
 
-  pub counted_lower : KidsLower s → get_or (counted s n) i n < n
-  counted_lower all = let h = one_held in omega (arith, h.2, all n h.0 (here, h.1))
+  -- an arm that it refers to is there
+  pub reference_there : (j : ℕ) → j < references node.parts → reference_at s k.n j < node.parts.arms
+  reference_there j lt =
+      omega (arith, getD_referred_left (links_of s node) node.details node.parts j lt, k.table.now.arms_there k.n j (here, omega (arith, length_referred (links_of s node) node.details node.parts)))
 
--- an arm that a known node refers to is there
-module _ (s : State) (n : ℕ) (there : ArmsThere s) (here : n < s.used) where
-  abbrev at : Node
-  at = node_at s n
-
-  pub reference_there : (k : ℕ) → k < references at.parts → reference_at s n k < at.parts.arms
-  reference_there k lt =
-      omega (arith, getD_referred_left (links_of s at) at.details at.parts k lt, there n k (here, omega (arith, length_referred (links_of s at) at.details at.parts)))
-
-  pub default_there : 0 < length (default_of at.details.second) → get_or (default_of at.details.second) 0 0 < at.parts.arms
+  pub default_there : 0 < length (default_of node.details.second) → get_or (default_of node.details.second) 0 0 < node.parts.arms
   default_there lt =
-      let k = references at.parts in
-      let first : get_or (default_of at.details.second) (k - k) 0 ≡ get_or (default_of at.details.second) 0 0 = ap (λ x. get_or (default_of at.details.second) x 0) (omega arith) in
-      omega (arith, first, getD_referred_right (links_of s at) at.details at.parts k (omega arith), there n k (here, omega (arith, length_referred (links_of s at) at.details at.parts)))
+      let j = references node.parts in
+      let first : get_or (default_of node.details.second) (j - j) 0 ≡ get_or (default_of node.details.second) 0 0 = ap (λ x. get_or (default_of node.details.second) x 0) (omega arith) in
+      omega (arith, first, getD_referred_right (links_of s node) node.details node.parts j (omega arith), k.table.now.arms_there k.n j (here, omega (arith, length_referred (links_of s node) node.details node.parts)))
 
--- what the code answers for a counted child
-pub child_answer : (t : Table) (n i r : ℕ) → known (table_state t) n ≡ true → i < length (counted (table_state t) n) → r ≡ get_or (counted (table_state t) n) i 0
-    → (r ≡ get_or (counted (table_state t) n) i n) × (known (table_state t) r ≡ true) × (r < n)
-child_answer t n i r k inside is =
-    let s = table_state t in
-    let here = ltb-true n s.used k in
-    let value : r ≡ get_or (counted s n) i n = is ∙ get_or_default (counted s n) i 0 n inside in (
-      value,
-      lt-ltb r s.used (omega (arith, value, counted_known s n i t.arms_there here inside t.kids_known)),
-      omega (arith, value, counted_lower s n i t.arms_there here inside t.kids_lower),
-    )
+  module _ (i : ℕ) (inside : i < length (counted s k.n)) where
+    pub direct_at : i < runs → get_or (counted s k.n) i k.n ≡ kid s k.n (run_from (counted_blocks node.details.kind) node.parts + i)
+    direct_at lt = get_or_default (counted s k.n) i k.n 0 inside ∙ counted_direct (links_of s node) node.details node.parts i lt
+
+    pub arm_at : runs ≤ i → i - runs < references node.parts + references node.parts
+        → get_or (counted s k.n) i k.n ≡ kid s k.n (arms_from node.parts + reference_at s k.n ((i - runs) / 2) + reference_at s k.n ((i - runs) / 2) + (i - runs) % 2)
+    arm_at ge lt = get_or_default (counted s k.n) i k.n 0 inside ∙ counted_arm (links_of s node) node.details node.parts i ge lt
+
+    pub default_at : runs ≤ i → references node.parts + references node.parts ≤ i - runs
+        → get_or (counted s k.n) i k.n ≡ value_of (kid s k.n) node.parts (get_or (default_of node.details.second) 0 0)
+    default_at ge more =
+        get_or_default (counted s k.n) i k.n 0 inside
+        ∙ counted_default (links_of s node) node.details node.parts i ge more (omega (arith, inside, counted_length))

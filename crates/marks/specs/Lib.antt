@@ -1,3 +1,4 @@
+pub mod Asks
 pub mod Marks
 pub mod Answers
 pub mod Runs

@@ -1,74 +1,101 @@
 //! What a table tells of a known node, with no fault left to handle.
-ghost use Rattle.std.specs.Prelude.{◌≡◌, ◌<◌, true, length, slice_index_or};
-ghost use Rattle.marks.specs.Marks.{is_expr_of, is_stmt_of};
-ghost use Rattle.table.specs.Facts.{kid, known};
-ghost use Rattle.table.specs.Reads.{has_kid, has_link, has_reference, ident_at, reference_at, table_state};
-ghost use Rattle.table.specs.State.{children, node_at};
+ghost use Rattle.std.specs.Prelude.{◌≡◌, ◌<◌, true, false, length, MatchResult, slice_index_or};
+ghost use Rattle.table.specs.Facts.{known};
+ghost use Rattle.table.specs.Reads.{table_state};
 
-use kind::kinds::{ExprKind, Kind, StmtKind};
+use node::faults::TableFault;
 use node::records::{Ident, Node};
 use table::tables::Table;
 use tree::trees::Tree;
 
-pub(crate) fn node_at(table: &Table<'_>, n: usize) -> Node
-    requires { known (table_state table.now) n ≡ true }
-    ensures { result ≡ node_at (table_state table.now) n }
-{
-    table.node(n).unwrap()
+/// A node that its table knows, by its place.
+#[derive(Clone, Copy)]
+pub(crate) struct KnownNode<'t, 'a> {
+    pub(crate) table: &'t Table<'a>,
+    pub(crate) n: usize,
+    ghost is_known: { known (table_state table.now) n ≡ true },
 }
 
-pub(crate) fn kid_at(table: &Table<'_>, n: usize, k: usize) -> usize
-    requires { has_kid (table_state table.now) n k ≡ true }
-    ensures { result ≡ kid (table_state table.now) n k }
-{
-    table.kid(n, k).unwrap()
-}
+impl<'t, 'a> KnownNode<'t, 'a> {
+    ghost use Rattle.marks.specs.Asks.{IsAt, NoExpr, record_of, state};
+    ghost use Rattle.node.specs.declared.faults.TableFault.TheVariants.{Missing, Misfit};
+    ghost use Rattle.table.specs.Facts.{is_stmt, kid, rank};
+    ghost use Rattle.table.specs.Reads.{ident_at, reference_at};
+    ghost use Rattle.table.specs.State.{children, kids, node_at, references, total};
 
-pub(crate) fn reference_at(table: &Table<'_>, n: usize, k: usize) -> usize
-    requires { has_reference (table_state table.now) n k ≡ true }
-    ensures { result ≡ reference_at (table_state table.now) n k }
-{
-    table.reference(n, k).unwrap()
-}
-
-pub(crate) fn child_count(table: &Table<'_>, n: usize) -> usize
-    requires { known (table_state table.now) n ≡ true }
-    ensures { result ≡ length (children (table_state table.now) n) }
-{
-    table.child_count(n).unwrap()
-}
-
-pub(crate) fn child_at(table: &Table<'_>, n: usize, i: usize) -> usize
-    requires known { known (table_state table.now) n ≡ true }
-    requires within { i < length (children (table_state table.now) n) }
-    ensures { result ≡ slice_index_or (children (table_state table.now) n) i n }
-{
-    table.child(n, i).unwrap()
-}
-
-pub(crate) fn ident_at(table: &Table<'_>, n: usize, k: usize) -> Ident
-    requires { has_link (table_state table.now) n k ≡ true }
-    ensures { result ≡ ident_at (table_state table.now) n k }
-{
-    table.ident(n, k).unwrap()
-}
-
-// Whether a kind is this one of statements.
-pub(crate) fn is_stmt_of(kind: Kind, wanted: StmtKind) -> bool
-    ensures { result ≡ is_stmt_of wanted kind }
-{
-    match kind {
-        Kind::Stmt(kind) => kind.number() == wanted.number(),
-        Kind::Expr(_) => false,
+    /// The node at a place; fault 2 where the place names none.
+    pub(crate) fn new(table: &'t Table<'a>, n: usize) -> Result<KnownNode<'t, 'a>, TableFault>
+        ensures { MatchResult result (λ k. (k.table.now ≡ table.now) × (k.n ≡ n)) (λ e. (known (table_state table.now) n ≡ false) × (e ≡ Missing n)) }
+    {
+        if table.knows(n) {
+            Ok(KnownNode { table, n })
+        } else {
+            Err(TableFault::Missing(n))
+        }
     }
-}
 
-// Whether a kind is this one of expressions.
-pub(crate) fn is_expr_of(kind: Kind, wanted: ExprKind) -> bool
-    ensures { result ≡ is_expr_of wanted kind }
-{
-    match kind {
-        Kind::Stmt(_) => false,
-        Kind::Expr(kind) => kind.number() == wanted.number(),
+    /// The expression at a place; fault 2 where the place names no node, fault 5 at a statement.
+    pub(crate) fn expr(table: &'t Table<'a>, n: usize) -> Result<KnownNode<'t, 'a>, TableFault>
+        ensures { MatchResult result (λ k. (k.table.now ≡ table.now) × (k.n ≡ n) × (is_stmt (record_of k).details.kind ≡ false)) (λ e. NoExpr (table_state table.now) n e) }
+    {
+        let node = KnownNode::new(table, n)?;
+        if node.record().details.kind.is_stmt() {
+            Err(TableFault::Misfit(n))
+        } else {
+            Ok(node)
+        }
+    }
+
+    /// Its record.
+    pub(crate) fn record(&self) -> Node
+        ensures { result ≡ record_of self.now }
+    {
+        self.table.node(self.n).unwrap()
+    }
+
+    /// The child that it holds at a number, walked or not.
+    pub(crate) fn kid(&self, k: usize) -> KnownNode<'t, 'a>
+        requires { k < kids (record_of self.now).parts }
+        ensures kid { IsAt self.now (kid (state self.now) self.now.n k) result }
+        ensures lower { rank (state self.now) result.n < rank (state self.now) self.now.n }
+    {
+        KnownNode {
+            table: self.table,
+            n: self.table.kid(self.n, k).unwrap(),
+        }
+    }
+
+    /// How many children it has, in walk order.
+    pub(crate) fn child_count(&self) -> usize
+        ensures { result ≡ length (children (state self.now) self.now.n) }
+    {
+        self.table.child_count(self.n).unwrap()
+    }
+
+    /// Its child at a number, in walk order.
+    pub(crate) fn child(&self, i: usize) -> KnownNode<'t, 'a>
+        requires { i < length (children (state self.now) self.now.n) }
+        ensures { IsAt self.now (slice_index_or (children (state self.now) self.now.n) i self.now.n) result }
+    {
+        KnownNode {
+            table: self.table,
+            n: self.table.child(self.n, i).unwrap(),
+        }
+    }
+
+    /// The arm that its reference at a number names.
+    pub(crate) fn reference(&self, k: usize) -> usize
+        requires { k < references (record_of self.now).parts }
+        ensures { result ≡ reference_at (state self.now) self.now.n k }
+    {
+        self.table.reference(self.n, k).unwrap()
+    }
+
+    /// The name that belongs to its link at a number.
+    pub(crate) fn ident(&self, k: usize) -> Ident
+        requires { k < total (record_of self.now).parts }
+        ensures { result ≡ ident_at (state self.now) self.now.n k }
+    {
+        self.table.ident(self.n, k).unwrap()
     }
 }

@@ -1,64 +1,46 @@
 //! Whether an expression is constant.
-ghost use Rattle.marks.specs.Marks.{IsConstant, plain, plain_kind};
-ghost use Rattle.std.specs.Prelude.{◌≡◌, true, Decides};
-ghost use Rattle.table.specs.Facts.{known};
-ghost use Rattle.table.specs.Reads.{table_state};
+ghost use Rattle.marks.specs.Asks.{state};
+ghost use Rattle.marks.specs.Marks.{IsConstant, plain_kind};
+ghost use Rattle.std.specs.Prelude.{◌≡◌, Decides};
 
-use crate::asks::{child_at, child_count, node_at};
+use crate::asks::KnownNode;
 use kind::kinds::{ExprKind, Kind};
-use table::tables::Table;
 
 // Whether a kind is constant or a list.
-fn is_plain(kind: ExprKind) -> bool
-    ensures { result ≡ plain kind }
-{
-    match kind {
-        ExprKind::DynamicConstant
-        | ExprKind::BoolConstant
-        | ExprKind::IntegerConstant
-        | ExprKind::FloatConstant
-        | ExprKind::CharConstant
-        | ExprKind::StringConstant
-        | ExprKind::InterpolatedString
-        | ExprKind::Array
-        | ExprKind::Map
-        | ExprKind::Unit => true,
-        ExprKind::Variable
-        | ExprKind::ThisPtr
-        | ExprKind::Property
-        | ExprKind::MethodCall
-        | ExprKind::Stmt
-        | ExprKind::FnCall
-        | ExprKind::Dot
-        | ExprKind::Index
-        | ExprKind::And
-        | ExprKind::Or
-        | ExprKind::Coalesce
-        | ExprKind::Custom => false,
-    }
-}
-
-fn is_plain_kind(kind: Kind) -> bool
+fn is_plain(kind: Kind) -> bool
     ensures { result ≡ plain_kind kind }
 {
-    match kind {
-        Kind::Stmt(_) => false,
-        Kind::Expr(kind) => is_plain(kind),
-    }
+    matches!(
+        kind,
+        Kind::Expr(
+            ExprKind::DynamicConstant
+                | ExprKind::BoolConstant
+                | ExprKind::IntegerConstant
+                | ExprKind::FloatConstant
+                | ExprKind::CharConstant
+                | ExprKind::StringConstant
+                | ExprKind::InterpolatedString
+                | ExprKind::Array
+                | ExprKind::Map
+                | ExprKind::Unit
+        )
+    )
 }
 
-// Whether a known node is constant: it is of such a kind, and so are all below it.
-pub(crate) fn constant_at(table: &Table<'_>, n: usize) -> bool
-    requires { known (table_state table.now) n ≡ true }
-    ensures { Decides result (IsConstant (table_state table.now) n) }
-{
-    if !is_plain_kind(node_at(table, n).details.kind) {
-        return false;
-    }
-    for i in 0..child_count(table, n) {
-        if !constant_at(table, child_at(table, n, i)) {
+impl KnownNode<'_, '_> {
+    /// Whether it is constant: it is of such a kind, and so are all below it.
+    #[tactic(auto, using(crate::proofs::Lines::constant_from, crate::proofs::Lines::constant_here, crate::proofs::Lines::constant_below))]
+    pub(crate) fn is_constant(&self) -> bool
+        ensures { Decides result (IsConstant (state self.now) self.now.n) }
+    {
+        if !is_plain(self.record().details.kind) {
             return false;
         }
+        for i in 0..self.child_count() {
+            if !self.child(i).is_constant() {
+                return false;
+            }
+        }
+        true
     }
-    true
 }

@@ -1,16 +1,15 @@
 //! The counted children of a node.
-ghost use Rattle.std.specs.Prelude.{◌≡◌, ◌+◌, ◌<◌, ◌≤◌, true, length, slice_index, slice_index_or};
+ghost use Rattle.std.specs.Prelude.{◌≡◌, ◌<◌, ◌≤◌, length, slice_index, slice_index_or};
+ghost use Rattle.marks.specs.Asks.{IsAt, record_of, state};
 ghost use Rattle.marks.specs.Marks.{counted, counted_blocks};
-ghost use Rattle.table.specs.Facts.{kid, known, rank};
+ghost use Rattle.table.specs.Facts.{kid, rank};
 ghost use Rattle.table.specs.Finds.{run_count, run_from};
-ghost use Rattle.table.specs.Reads.{table_state};
-ghost use Rattle.table.specs.State.{arms_from, default_of, node_at, references};
+ghost use Rattle.table.specs.State.{arms_from, condition_of, default_of, references, value_of};
 
-use crate::asks::{kid_at, node_at, reference_at};
+use crate::asks::KnownNode;
 use kind::kinds::{Kind, StmtKind};
 use kind::shapes::Blocks;
 use node::records::{Parts, Second};
-use table::tables::Table;
 
 /// A run of a node's links: from one on, so many.
 #[derive(Drop)]
@@ -28,46 +27,6 @@ fn counted_blocks(kind: Kind) -> Blocks
         Kind::Stmt(StmtKind::TryCatch) => Blocks::Walked,
         Kind::Stmt(_) | Kind::Expr(_) => kind.shape().blocks,
     }
-}
-
-// The counted ones of head, body and branch.
-fn counted_run(kind: Kind, parts: &Parts) -> Run
-    ensures from { result.from ≡ run_from (counted_blocks kind) parts.now }
-    ensures count { result.count ≡ run_count (counted_blocks kind) parts.now }
-    ensures bound { result.count ≤ 400000 }
-{
-    let head = parts.head as usize;
-    let body = parts.body as usize;
-    let branch = parts.branch as usize;
-    match counted_blocks(kind) {
-        Blocks::None => Run {
-            from: 0,
-            count: head,
-        },
-        Blocks::List => Run {
-            from: head,
-            count: body,
-        },
-        Blocks::Walked => Run {
-            from: 0,
-            count: head + body + branch,
-        },
-        Blocks::Held => Run {
-            from: 0,
-            count: head + body,
-        },
-        Blocks::Catch => Run {
-            from: head,
-            count: body + branch,
-        },
-    }
-}
-
-fn reference_count(parts: &Parts) -> usize
-    ensures value { result ≡ references parts.now }
-    ensures bound { result ≤ 400000 }
-{
-    parts.values as usize + parts.ranges as usize
 }
 
 // Where the arms begin.
@@ -98,46 +57,102 @@ fn default_arm(second: Second) -> usize
     }
 }
 
-// How many children of a node count.
-pub(crate) fn counted_count(table: &Table<'_>, n: usize) -> usize
-    requires { known (table_state table.now) n ≡ true }
-    ensures { result ≡ length (counted (table_state table.now) n) }
-{
-    let node = node_at(table, n);
-    let references = reference_count(&node.parts);
-    counted_run(node.details.kind, &node.parts).count
-        + (references + references + default_count(node.details.second))
-}
-
-// The condition of an arm, at 0, or its value, at 1.
-fn in_arm(table: &Table<'_>, n: usize, arm: usize, side: usize) -> usize
-    requires known { known (table_state table.now) n ≡ true }
-    requires there { arm < (node_at (table_state table.now) n).parts.arms }
-    requires side { side ≤ 1 }
-    ensures { result ≡ kid (table_state table.now) n (arms_from (node_at (table_state table.now) n).parts + arm + arm + side) }
-{
-    let parts = node_at(table, n).parts;
-    kid_at(table, n, arms_start(&parts) + arm + arm + side)
-}
-
-// The child at a number among those that count.
-pub(crate) fn counted_child(table: &Table<'_>, n: usize, i: usize) -> usize
-    requires known { known (table_state table.now) n ≡ true }
-    requires within { i < length (counted (table_state table.now) n) }
-    ensures value { result ≡ slice_index_or (counted (table_state table.now) n) i n }
-    ensures known { known (table_state table.now) result ≡ true }
-    ensures lower { rank (table_state table.now) result < rank (table_state table.now) n }
-{
-    let node = node_at(table, n);
-    let run = counted_run(node.details.kind, &node.parts);
-    if i < run.count {
-        return kid_at(table, n, run.from + i);
+impl KnownNode<'_, '_> {
+    // The counted ones of its head, body and branch.
+    fn counted_run(&self) -> Run
+        ensures from { result.from ≡ run_from (counted_blocks (record_of self.now).details.kind) (record_of self.now).parts }
+        ensures count { result.count ≡ run_count (counted_blocks (record_of self.now).details.kind) (record_of self.now).parts }
+        ensures bound { result.count ≤ 400000 }
+    {
+        let node = self.record();
+        let head = node.parts.head as usize;
+        let body = node.parts.body as usize;
+        let branch = node.parts.branch as usize;
+        match counted_blocks(node.details.kind) {
+            Blocks::None => Run {
+                from: 0,
+                count: head,
+            },
+            Blocks::List => Run {
+                from: head,
+                count: body,
+            },
+            Blocks::Walked => Run {
+                from: 0,
+                count: head + body + branch,
+            },
+            Blocks::Held => Run {
+                from: 0,
+                count: head + body,
+            },
+            Blocks::Catch => Run {
+                from: head,
+                count: body + branch,
+            },
+        }
     }
-    let past = i - run.count;
-    let references = reference_count(&node.parts);
-    if past < references + references {
-        in_arm(table, n, reference_at(table, n, past / 2), past % 2)
-    } else {
-        in_arm(table, n, default_arm(node.details.second), 1)
+
+    // How many references to arms it has.
+    fn reference_count(&self) -> usize
+        ensures value { result ≡ references (record_of self.now).parts }
+        ensures bound { result ≤ 400000 }
+    {
+        let parts = self.record().parts;
+        parts.values as usize + parts.ranges as usize
+    }
+
+    /// How many of its children count.
+    #[tactic(auto, using(crate::proofs::Links::counted_length))]
+    pub(crate) fn counted_count(&self) -> usize
+        ensures { result ≡ length (counted (state self.now) self.now.n) }
+    {
+        let references = self.reference_count();
+        let defaults = default_count(self.record().details.second);
+        self.counted_run().count + (references + references + defaults)
+    }
+}
+
+impl<'t, 'a> KnownNode<'t, 'a> {
+    // The condition of an arm.
+    fn condition(&self, arm: usize) -> KnownNode<'t, 'a>
+        requires { arm < (record_of self.now).parts.arms }
+        ensures condition { IsAt self.now (condition_of (kid (state self.now) self.now.n) (record_of self.now).parts arm) result }
+        ensures lower { rank (state self.now) result.n < rank (state self.now) self.now.n }
+    {
+        self.kid(arms_start(&self.record().parts) + arm + arm)
+    }
+
+    // The value of an arm.
+    fn value(&self, arm: usize) -> KnownNode<'t, 'a>
+        requires { arm < (record_of self.now).parts.arms }
+        ensures value { IsAt self.now (value_of (kid (state self.now) self.now.n) (record_of self.now).parts arm) result }
+        ensures lower { rank (state self.now) result.n < rank (state self.now) self.now.n }
+    {
+        self.kid(arms_start(&self.record().parts) + arm + arm + 1)
+    }
+
+    /// Its child at a number among those that count.
+    #[tactic(auto, using(crate::proofs::Links::counted_length, crate::proofs::Links::direct_at, crate::proofs::Links::arm_at, crate::proofs::Links::default_at, crate::proofs::Links::reference_there, crate::proofs::Links::default_there))]
+    pub(crate) fn counted_child(&self, i: usize) -> KnownNode<'t, 'a>
+        requires { i < length (counted (state self.now) self.now.n) }
+        ensures child { IsAt self.now (slice_index_or (counted (state self.now) self.now.n) i self.now.n) result }
+        ensures lower { rank (state self.now) result.n < rank (state self.now) self.now.n }
+    {
+        let run = self.counted_run();
+        if i < run.count {
+            return self.kid(run.from + i);
+        }
+        let past = i - run.count;
+        let references = self.reference_count();
+        if past < references + references {
+            let arm = self.reference(past / 2);
+            if past % 2 == 0 {
+                self.condition(arm)
+            } else {
+                self.value(arm)
+            }
+        } else {
+            self.value(default_arm(self.record().details.second))
+        }
     }
 }

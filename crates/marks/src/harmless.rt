@@ -1,100 +1,67 @@
 //! Which nodes do nothing by themselves.
-ghost use Rattle.draft.specs.Fits.{same};
-ghost use Rattle.marks.specs.Marks.{bool_constant, condition_is, expr_harmless, has_default, holds_bool, is_bool, stmt_harmless};
-ghost use Rattle.table.specs.Facts.{known};
-ghost use Rattle.table.specs.Reads.{table_state};
-ghost use Rattle.std.specs.Prelude.{◌≡◌, true};
+ghost use Rattle.marks.specs.Asks.{state};
+ghost use Rattle.marks.specs.Marks.{bool_constant, condition_is, expr_harmless, has_default, holds_bool, stmt_harmless};
+ghost use Rattle.std.specs.Prelude.{◌≡◌};
 
-use crate::asks::{is_expr_of, kid_at, node_at};
-use kind::kinds::{ExprKind, StmtKind};
+use crate::asks::KnownNode;
+use kind::kinds::{ExprKind, Kind, StmtKind};
 use node::records::{Constant, Details, Payload, Second};
-use table::tables::Table;
-
-fn equal(a: bool, b: bool) -> bool
-    ensures { result ≡ same a b }
-{
-    if a { b } else { !b }
-}
-
-fn is_bool(constant: Constant, value: bool) -> bool
-    ensures { result ≡ is_bool value constant }
-{
-    match constant {
-        Constant::Bool(x) => equal(x, value),
-        Constant::Stored(_)
-        | Constant::Integer(_)
-        | Constant::Float(_)
-        | Constant::Char(_)
-        | Constant::Text(_) => false,
-    }
-}
 
 fn holds_bool(payload: Payload, value: bool) -> bool
     ensures { result ≡ holds_bool value payload }
 {
-    match payload {
-        Payload::Constant(constant) => is_bool(constant, value),
-        Payload::Nothing | Payload::Spans(_, _) => false,
-    }
+    matches!(payload, Payload::Constant(Constant::Bool(x)) if x == value)
 }
 
 // Whether a node is the Boolean constant of this value.
 fn is_bool_constant(details: &Details, value: bool) -> bool
     ensures { result ≡ bool_constant value details.now }
 {
-    is_expr_of(details.kind, ExprKind::BoolConstant) && holds_bool(details.payload, value)
-}
-
-// Whether the condition of a node is the Boolean constant of this value.
-fn condition_is(table: &Table<'_>, n: usize, value: bool) -> bool
-    requires { known (table_state table.now) n ≡ true }
-    ensures { result ≡ condition_is (table_state table.now) n value }
-{
-    if node_at(table, n).parts.head > 0 {
-        let condition = kid_at(table, n, 0);
-        is_bool_constant(&node_at(table, condition).details, value)
-    } else {
-        false
-    }
+    details.kind == Kind::Expr(ExprKind::BoolConstant) && holds_bool(details.payload, value)
 }
 
 fn has_default(second: Second) -> bool
     ensures { result ≡ has_default second }
 {
-    match second {
-        Second::Default(_) => true,
-        Second::Nothing | Second::Name(_) | Second::Namespace(_) => false,
+    matches!(second, Second::Default(_))
+}
+
+impl KnownNode<'_, '_> {
+    // Whether its condition is the Boolean constant of this value.
+    fn condition_is(&self, value: bool) -> bool
+        ensures { result ≡ condition_is (state self.now) self.now.n value }
+    {
+        self.record().parts.head > 0 && is_bool_constant(&self.kid(0).record().details, value)
+    }
+
+    /// Whether a statement of this kind does nothing by itself.
+    pub(crate) fn stmt_is_harmless(&self, kind: StmtKind) -> bool
+        ensures { result ≡ stmt_harmless (state self.now) self.now.n kind }
+    {
+        match kind {
+            StmtKind::Noop
+            | StmtKind::Expr
+            | StmtKind::If
+            | StmtKind::For
+            | StmtKind::Block
+            | StmtKind::TryCatch => true,
+            StmtKind::Switch => has_default(self.record().details.second),
+            // A loop that ends at once does nothing, and any other may never end.
+            StmtKind::While => self.condition_is(false),
+            StmtKind::Do => self.condition_is(self.record().details.flags.is_negated()),
+            StmtKind::Var
+            | StmtKind::Assignment
+            | StmtKind::FnCall
+            | StmtKind::BreakLoop
+            | StmtKind::Return
+            | StmtKind::Import
+            | StmtKind::Export
+            | StmtKind::Share => false,
+        }
     }
 }
 
-// Whether a known statement of this kind does nothing by itself.
-pub(crate) fn stmt_is_harmless(table: &Table<'_>, n: usize, kind: StmtKind) -> bool
-    requires { known (table_state table.now) n ≡ true }
-    ensures { result ≡ stmt_harmless (table_state table.now) n kind }
-{
-    match kind {
-        StmtKind::Noop
-        | StmtKind::Expr
-        | StmtKind::If
-        | StmtKind::For
-        | StmtKind::Block
-        | StmtKind::TryCatch => true,
-        StmtKind::Switch => has_default(node_at(table, n).details.second),
-        // A loop that ends at once does nothing, and any other may never end.
-        StmtKind::While => condition_is(table, n, false),
-        StmtKind::Do => condition_is(table, n, node_at(table, n).details.flags.is_negated()),
-        StmtKind::Var
-        | StmtKind::Assignment
-        | StmtKind::FnCall
-        | StmtKind::BreakLoop
-        | StmtKind::Return
-        | StmtKind::Import
-        | StmtKind::Export
-        | StmtKind::Share => false,
-    }
-}
-
-// Whether an expression of this kind does nothing by itself.
+/// Whether an expression of this kind does nothing by itself.
 pub(crate) fn expr_is_harmless(kind: ExprKind) -> bool
     ensures { result ≡ expr_harmless kind }
 {

@@ -3,10 +3,8 @@ ghost use Rattle.std.specs.Prelude.{ℕ, Bool, Result};
 ghost use Rattle.marks.specs.Answers.{TableConstant, TablePure};
 ghost use Rattle.node.specs.declared.faults.TableFault.{TableFault};
 
-use crate::constants::constant_at;
+use crate::asks::KnownNode;
 use crate::found::Found;
-use crate::purity::node_is_pure;
-use kind::kinds::Kind;
 use node::faults::TableFault;
 use table::tables::Table;
 
@@ -32,14 +30,11 @@ impl<'a> Marks for Table<'a> {
     ghost pure = { TablePure };
 
     fn is_constant(&self, n: usize) -> Result<bool, TableFault> {
-        match self.node(n)?.details.kind {
-            Kind::Stmt(_) => Err(TableFault::Misfit(n)),
-            Kind::Expr(_) => Ok(constant_at(self, n)),
-        }
+        let node = KnownNode::expr(self, n)?;
+        Ok(node.is_constant())
     }
 
     fn is_pure(&self, n: usize) -> Result<bool, TableFault> {
-        self.node(n)?;
-        Ok(node_is_pure(self, n, &mut Found::none()))
+        Ok(KnownNode::new(self, n)?.is_pure(&mut Found::none()))
     }
 }

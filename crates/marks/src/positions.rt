@@ -1,16 +1,13 @@
 //! Where a node stands in the script, and where it starts.
-ghost use Rattle.std.specs.Prelude.{◌≡◌, ◌+◌, true, false};
+ghost use Rattle.std.specs.Prelude.{◌≡◌, ◌+◌};
+ghost use Rattle.marks.specs.Asks.{state};
 ghost use Rattle.marks.specs.Positions.{Stands, Starts, at_namespace, block_start, goes_left, has_left, is_block, one_expression, own_position, own_start, shares};
-ghost use Rattle.node.specs.declared.positions.Position.{Position};
-ghost use Rattle.table.specs.Facts.{known};
-ghost use Rattle.table.specs.Reads.{table_state};
-ghost use Rattle.table.specs.State.{kids, node_at, references};
+ghost use Rattle.table.specs.State.{kids, references};
 
-use crate::asks::{ident_at, is_expr_of, is_stmt_of, kid_at, node_at};
+use crate::asks::KnownNode;
 use kind::kinds::{ExprKind, Kind, StmtKind};
 use node::positions::Position;
 use node::records::{Node, Parts, Payload, Second};
-use table::tables::Table;
 
 // Where the first block begins.
 fn block_start(payload: Payload) -> Position
@@ -25,13 +22,16 @@ fn block_start(payload: Payload) -> Position
 fn is_block(kind: Kind) -> bool
     ensures { result ≡ is_block kind }
 {
-    is_stmt_of(kind, StmtKind::Block) || is_expr_of(kind, ExprKind::Stmt)
+    matches!(
+        kind,
+        Kind::Stmt(StmtKind::Block) | Kind::Expr(ExprKind::Stmt)
+    )
 }
 
 fn shares(node: &Node) -> bool
     ensures { result ≡ shares node.now }
 {
-    is_stmt_of(node.details.kind, StmtKind::Share) && node.parts.shared > 0
+    node.details.kind == Kind::Stmt(StmtKind::Share) && node.parts.shared > 0
 }
 
 // The number of the first shared name among a node's links.
@@ -43,29 +43,15 @@ fn first_shared(parts: &Parts) -> usize
     held + arms + arms + (parts.values as usize + parts.ranges as usize)
 }
 
-// The position of a known node that is no statement Expr.
-fn own_position(table: &Table<'_>, n: usize) -> Position
-    requires { known (table_state table.now) n ≡ true }
-    ensures { result ≡ own_position (table_state table.now) n }
-{
-    let node = node_at(table, n);
-    if is_block(node.details.kind) {
-        block_start(node.details.payload)
-    } else if shares(&node) {
-        ident_at(table, n, first_shared(&node.parts)).pos
-    } else {
-        node.details.position
-    }
-}
-
 fn goes_left(kind: Kind) -> bool
     ensures { result ≡ goes_left kind }
 {
-    is_expr_of(kind, ExprKind::And)
-        || is_expr_of(kind, ExprKind::Or)
-        || is_expr_of(kind, ExprKind::Coalesce)
-        || is_expr_of(kind, ExprKind::Index)
-        || is_expr_of(kind, ExprKind::Dot)
+    matches!(
+        kind,
+        Kind::Expr(
+            ExprKind::And | ExprKind::Or | ExprKind::Coalesce | ExprKind::Index | ExprKind::Dot
+        )
+    )
 }
 
 // Whether a node starts where its first expression starts.
@@ -73,20 +59,6 @@ fn has_left(node: &Node) -> bool
     ensures { result ≡ has_left node.now }
 {
     goes_left(node.details.kind) && node.parts.head > 0
-}
-
-// The left-most expression of a known node.
-fn left_most(table: &Table<'_>, n: usize) -> usize
-    requires { known (table_state table.now) n ≡ true }
-    ensures known { known (table_state table.now) result ≡ true }
-    ensures ends { has_left (node_at (table_state table.now) result) ≡ false }
-    ensures starts { (p : Position) → Starts (table_state table.now) result p → Starts (table_state table.now) n p }
-{
-    let mut at = n;
-    while has_left(&node_at(table, at)) {
-        at = kid_at(table, at, 0);
-    }
-    at
 }
 
 fn at_namespace(second: Second, position: Position) -> Position
@@ -98,41 +70,60 @@ fn at_namespace(second: Second, position: Position) -> Position
     }
 }
 
-// Where a node starts that starts with nothing else.
-fn own_start(table: &Table<'_>, n: usize) -> Position
-    requires { known (table_state table.now) n ≡ true }
-    ensures { result ≡ own_start (table_state table.now) n }
-{
-    let details = node_at(table, n).details;
-    if is_expr_of(details.kind, ExprKind::Variable) {
-        at_namespace(details.second, own_position(table, n))
-    } else {
-        own_position(table, n)
-    }
-}
-
-// Where a known node starts.
-pub(crate) fn start_of(table: &Table<'_>, n: usize) -> Position
-    requires { known (table_state table.now) n ≡ true }
-    ensures { Starts (table_state table.now) n result }
-{
-    own_start(table, left_most(table, n))
-}
-
 fn one_expression(node: &Node) -> bool
     ensures { result ≡ one_expression node.now }
 {
-    is_stmt_of(node.details.kind, StmtKind::Expr) && node.parts.head > 0
+    node.details.kind == Kind::Stmt(StmtKind::Expr) && node.parts.head > 0
 }
 
-// Where a known node stands.
-pub(crate) fn position_of(table: &Table<'_>, n: usize) -> Position
-    requires { known (table_state table.now) n ≡ true }
-    ensures { Stands (table_state table.now) n result }
-{
-    if one_expression(&node_at(table, n)) {
-        start_of(table, kid_at(table, n, 0))
-    } else {
-        own_position(table, n)
+impl KnownNode<'_, '_> {
+    // The position of a node that is no statement Expr.
+    fn own_position(&self) -> Position
+        ensures { result ≡ own_position (state self.now) self.now.n }
+    {
+        let node = self.record();
+        if is_block(node.details.kind) {
+            block_start(node.details.payload)
+        } else if shares(&node) {
+            self.ident(first_shared(&node.parts)).pos
+        } else {
+            node.details.position
+        }
+    }
+
+    // Where a node starts that starts with nothing else.
+    fn own_start(&self) -> Position
+        ensures { result ≡ own_start (state self.now) self.now.n }
+    {
+        let details = self.record().details;
+        if details.kind == Kind::Expr(ExprKind::Variable) {
+            at_namespace(details.second, self.own_position())
+        } else {
+            self.own_position()
+        }
+    }
+
+    /// Where it starts: at its left-most expression.
+    #[tactic(auto, using(crate::specs::Positions::here, crate::specs::Positions::left))]
+    pub(crate) fn start(&self) -> Position
+        ensures { Starts (state self.now) self.now.n result }
+    {
+        if has_left(&self.record()) {
+            self.kid(0).start()
+        } else {
+            self.own_start()
+        }
+    }
+
+    /// Where it stands.
+    pub(crate) fn position(&self) -> Position
+        ensures { Stands (state self.now) self.now.n result }
+    {
+        if one_expression(&self.record()) {
+            let expression = self.kid(0);
+            expression.start()
+        } else {
+            self.own_position()
+        }
     }
 }

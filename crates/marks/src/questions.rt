@@ -5,12 +5,11 @@ ghost use Rattle.marks.specs.Names.{TableNames};
 ghost use Rattle.marks.specs.Positions.{TableStands, TableStarts};
 ghost use Rattle.node.specs.declared.faults.TableFault.{TableFault};
 ghost use Rattle.node.specs.declared.flags.ASTFlags.{ASTFlags};
-ghost use Rattle.kind.specs.declared.kinds.Kind.TheVariants.{Expr, Stmt};
+ghost use Rattle.kind.specs.declared.kinds.Kind.TheVariants.{Stmt};
 ghost use Rattle.node.specs.declared.positions.Position.{Position};
 ghost use Rattle.node.specs.declared.texts.View.{View};
 
-use crate::names::name_of;
-use crate::positions::{position_of, start_of};
+use crate::asks::KnownNode;
 use kind::kinds::{ExprKind, Kind, StmtKind};
 use node::faults::TableFault;
 use node::flags::ASTFlags;
@@ -19,88 +18,36 @@ use node::records::Details;
 use node::texts::View;
 use table::tables::Table;
 
-fn stmt_has_options(kind: StmtKind) -> bool
-    ensures { result ≡ has_options (Stmt kind) }
-{
-    match kind {
-        StmtKind::Do | StmtKind::Var | StmtKind::BreakLoop | StmtKind::Return => true,
-        StmtKind::Noop
-        | StmtKind::If
-        | StmtKind::Switch
-        | StmtKind::Block
-        | StmtKind::Expr
-        | StmtKind::FnCall
-        | StmtKind::While
-        | StmtKind::For
-        | StmtKind::TryCatch
-        | StmtKind::Assignment
-        | StmtKind::Import
-        | StmtKind::Export
-        | StmtKind::Share => false,
-    }
-}
-
-fn expr_has_options(kind: ExprKind) -> bool
-    ensures { result ≡ has_options (Expr kind) }
-{
-    match kind {
-        ExprKind::Index | ExprKind::Dot => true,
-        ExprKind::FloatConstant
-        | ExprKind::DynamicConstant
-        | ExprKind::BoolConstant
-        | ExprKind::IntegerConstant
-        | ExprKind::CharConstant
-        | ExprKind::Unit
-        | ExprKind::StringConstant
-        | ExprKind::Array
-        | ExprKind::Map
-        | ExprKind::Variable
-        | ExprKind::ThisPtr
-        | ExprKind::And
-        | ExprKind::Or
-        | ExprKind::Coalesce
-        | ExprKind::FnCall
-        | ExprKind::MethodCall
-        | ExprKind::InterpolatedString
-        | ExprKind::Property
-        | ExprKind::Stmt
-        | ExprKind::Custom => false,
-    }
-}
-
-fn kind_has_options(kind: Kind) -> bool
+// Whether a kind has options.
+fn has_options(kind: Kind) -> bool
     ensures { result ≡ has_options kind }
 {
-    match kind {
-        Kind::Stmt(kind) => stmt_has_options(kind),
-        Kind::Expr(kind) => expr_has_options(kind),
-    }
+    matches!(
+        kind,
+        Kind::Stmt(StmtKind::Do | StmtKind::Var | StmtKind::BreakLoop | StmtKind::Return)
+            | Kind::Expr(ExprKind::Dot | ExprKind::Index)
+    )
 }
 
 // The options of a node; none where its kind has none.
 fn options_of(details: &Details) -> ASTFlags
     ensures { result ≡ options_of details.now }
 {
-    if kind_has_options(details.kind) {
+    if has_options(details.kind) {
         details.flags
     } else {
         ASTFlags::NONE
     }
 }
 
-fn stmt_returns_value(kind: StmtKind) -> bool
+// Whether a statement of this kind returns a value.
+fn returns_value(kind: StmtKind) -> bool
     ensures { result ≡ returns_value (Stmt kind) }
 {
-    match kind {
-        StmtKind::If | StmtKind::Switch | StmtKind::Block | StmtKind::Expr | StmtKind::FnCall => {
-            true
-        }
-        StmtKind::Noop | StmtKind::While | StmtKind::Do | StmtKind::For | StmtKind::TryCatch => {
-            false
-        }
-        StmtKind::Var | StmtKind::Assignment | StmtKind::BreakLoop | StmtKind::Return => false,
-        StmtKind::Import | StmtKind::Export | StmtKind::Share => false,
-    }
+    matches!(
+        kind,
+        StmtKind::If | StmtKind::Switch | StmtKind::Block | StmtKind::Expr | StmtKind::FnCall
+    )
 }
 
 /// What is asked of a node.
@@ -159,21 +106,17 @@ impl<'a> Questions for Table<'a> {
 
     fn returns_value(&self, n: usize) -> Result<bool, TableFault> {
         match self.node(n)?.details.kind {
-            Kind::Stmt(kind) => Ok(stmt_returns_value(kind)),
+            Kind::Stmt(kind) => Ok(returns_value(kind)),
             Kind::Expr(_) => Err(TableFault::Misfit(n)),
         }
     }
 
     fn position(&self, n: usize) -> Result<Position, TableFault> {
-        self.node(n)?;
-        Ok(position_of(self, n))
+        Ok(KnownNode::new(self, n)?.position())
     }
 
     fn start_position(&self, n: usize) -> Result<Position, TableFault> {
-        match self.node(n)?.details.kind {
-            Kind::Stmt(_) => Err(TableFault::Misfit(n)),
-            Kind::Expr(_) => Ok(start_of(self, n)),
-        }
+        Ok(KnownNode::expr(self, n)?.start())
     }
 
     fn get_variable_name(
@@ -181,6 +124,6 @@ impl<'a> Questions for Table<'a> {
         n: usize,
         non_qualified: bool,
     ) -> Result<Option<View<'_>>, TableFault> {
-        name_of(self, n, non_qualified)
+        KnownNode::expr(self, n)?.variable_name(non_qualified)
     }
 }
