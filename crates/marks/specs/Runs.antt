@@ -1,9 +1,11 @@
 -- Inner: where the code finds the counted children among a node's links, and what it has found so far. No promise
 -- rests on this page. Assumes nothing.
-use Rattle.std.specs.Prelude.{◌≡◌, ℕ, ◌+◌, Bool, true, false, List, length, slice_index_or}
+use Rattle.std.specs.Prelude.{◌≡◌, ℕ, ◌+◌, true, length}
 use Rattle.node.specs.declared.records.Details.{Details}
 use Rattle.node.specs.declared.records.Parts.{Parts}
 use Rattle.table.specs.Finds.{run_count}
+use Rattle.table.specs.Seen.{marked}
+use Rattle.table.specs.declared.seen.Seen.{Seen}
 use Rattle.table.specs.State.{State, references, default_of}
 use Rattle.marks.specs.Marks.{counted_blocks, IsPure}
 
@@ -12,5 +14,5 @@ abbrev pub counted_count : Details → Parts → ℕ
 counted_count d p = run_count (counted_blocks d.kind) p + (references p + references p + length (default_of d.second))
 
 -- what is marked is pure
-abbrev pub AllPure : State → List Bool → Type 0
-AllPure s marks = (j : ℕ) → slice_index_or marks j false ≡ true → IsPure s j
+abbrev pub AllPure : State → Seen → Type 0
+AllPure s found = (j : ℕ) → marked found j ≡ true → IsPure s j

@@ -4,7 +4,6 @@
 mod asks;
 mod constants;
 mod counts;
-mod found;
 mod harmless;
 pub mod marks;
 mod names;

@@ -4,8 +4,8 @@ ghost use Rattle.marks.specs.Answers.{TableConstant, TablePure};
 ghost use Rattle.node.specs.declared.faults.TableFault.{TableFault};
 
 use crate::asks::KnownNode;
-use crate::found::Found;
 use node::faults::TableFault;
+use table::seen::Seen;
 use table::tables::Table;
 
 /// What is asked for marks.
@@ -35,6 +35,6 @@ impl<'a> Marks for Table<'a> {
     }
 
     fn is_pure(&self, n: usize) -> Result<bool, TableFault> {
-        Ok(KnownNode::new(self, n)?.is_pure(&mut Found::none()))
+        Ok(KnownNode::new(self, n)?.is_pure(&mut Seen::none()))
     }
 }

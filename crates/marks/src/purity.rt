@@ -6,17 +6,17 @@ ghost use Rattle.kind.specs.declared.kinds.Kind.TheVariants.{Expr, Stmt};
 ghost use Rattle.std.specs.Prelude.{◌≡◌, true, Decides};
 
 use crate::asks::KnownNode;
-use crate::found::Found;
 use crate::harmless::expr_is_harmless;
 use kind::kinds::{ExprKind, Kind, StmtKind};
+use table::seen::Seen;
 
 impl KnownNode<'_, '_> {
     /// Whether it is pure.
     #[cycle(purity)]
-    pub(crate) fn is_pure(&self, found: &mut Found) -> bool
-        requires { AllPure (state self.now) found.old.marks }
+    pub(crate) fn is_pure(&self, found: &mut Seen) -> bool
+        requires { AllPure (state self.now) found.old }
         ensures mark { Decides result (IsPure (state self.now) self.now.n) }
-        ensures found { AllPure (state self.now) found.new.marks }
+        ensures found { AllPure (state self.now) found.new }
     {
         match self.record().details.kind {
             Kind::Stmt(kind) => self.stmt_is_pure(kind, found),
@@ -27,11 +27,11 @@ impl KnownNode<'_, '_> {
     // Whether a statement of this kind is pure.
     #[cycle(purity)]
     #[tactic(auto, using(crate::proofs::Lines::pure_here))]
-    fn stmt_is_pure(&self, kind: StmtKind, found: &mut Found) -> bool
+    fn stmt_is_pure(&self, kind: StmtKind, found: &mut Seen) -> bool
         requires kind { (record_of self.now).details.kind ≡ Stmt kind }
-        requires found { AllPure (state self.now) found.old.marks }
+        requires found { AllPure (state self.now) found.old }
         ensures mark { Decides result (IsPure (state self.now) self.now.n) }
-        ensures found { AllPure (state self.now) found.new.marks }
+        ensures found { AllPure (state self.now) found.new }
     {
         self.stmt_is_harmless(kind) && self.harmless_is_pure(found)
     }
@@ -39,11 +39,11 @@ impl KnownNode<'_, '_> {
     // Whether an expression of this kind is pure.
     #[cycle(purity)]
     #[tactic(auto, using(crate::proofs::Lines::pure_here))]
-    fn expr_is_pure(&self, kind: ExprKind, found: &mut Found) -> bool
+    fn expr_is_pure(&self, kind: ExprKind, found: &mut Seen) -> bool
         requires kind { (record_of self.now).details.kind ≡ Expr kind }
-        requires found { AllPure (state self.now) found.old.marks }
+        requires found { AllPure (state self.now) found.old }
         ensures mark { Decides result (IsPure (state self.now) self.now.n) }
-        ensures found { AllPure (state self.now) found.new.marks }
+        ensures found { AllPure (state self.now) found.new }
     {
         expr_is_harmless(kind) && self.harmless_is_pure(found)
     }
@@ -51,11 +51,11 @@ impl KnownNode<'_, '_> {
     // Whether a node that does nothing by itself is pure: whether its counted children are. It is asked once, then marked.
     #[cycle(purity)]
     #[tactic(auto, using(crate::proofs::Lines::pure_from, crate::proofs::Lines::pure_below))]
-    fn harmless_is_pure(&self, found: &mut Found) -> bool
+    fn harmless_is_pure(&self, found: &mut Seen) -> bool
         requires harmless { harmless (state self.now) self.now.n ≡ true }
-        requires found { AllPure (state self.now) found.old.marks }
+        requires found { AllPure (state self.now) found.old }
         ensures mark { Decides result (IsPure (state self.now) self.now.n) }
-        ensures found { AllPure (state self.now) found.new.marks }
+        ensures found { AllPure (state self.now) found.new }
     {
         if found.has(self.n) {
             return true;

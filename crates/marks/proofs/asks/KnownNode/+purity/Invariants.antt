@@ -21,4 +21,4 @@ decreases-stmt_is_pure l = 3 * rank (state l.self.now) l.self.now.n + 1
 -- the children passed are pure, and so is what is marked
 abbrev pub invariant-harmless_is_pure-loop-i : goal.invariant-harmless_is_pure-loop-i
 invariant-harmless_is_pure-loop-i l =
-    ((k : ℕ) → k < l.i → IsPure (state l.self) (get_or (counted (state l.self) l.self.n) k l.self.n)) × AllPure (state l.self) l.found.marks
+    ((k : ℕ) → k < l.i → IsPure (state l.self) (get_or (counted (state l.self) l.self.n) k l.self.n)) × AllPure (state l.self) l.found
