@@ -5,8 +5,5 @@ use Rattle.table.specs.State.{State}
 use Rattle.marks.specs.Asks.{IsAt, state}
 use Rattle.marks.specs.declared.asks.KnownNode.{KnownNode}
 
-pub carried : (P : State → ℕ → Type 0) (k j : KnownNode) (n : ℕ) → IsAt k n j → P (state j) j.n → P (state k) n
-carried P k j n is p = subst (P (state k)) is.1 (subst (λ t. P (table_state t) j.n) is.0 p)
-
-pub carried_back : (P : State → ℕ → Type 0) (k j : KnownNode) (n : ℕ) → IsAt k n j → P (state k) n → P (state j) j.n
-carried_back P k j n is p = subst (λ t. P (table_state t) j.n) (sym is.0) (subst (P (state k)) (sym is.1) p)
+pub carried : (P : State → ℕ → Type 0) (k j : KnownNode) (n : ℕ) → IsAt k n j → P (state k) n → P (state j) j.n
+carried P k j n is p = subst (λ t. P (table_state t) j.n) (sym is.0) (subst (P (state k)) (sym is.1) p)

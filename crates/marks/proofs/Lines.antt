@@ -1,5 +1,5 @@
 -- A test that holds at the end of each line of descent. Assumes nothing.
-use Rattle.std.proofs.Common.{◌≡◌, ℕ, ◌<◌, Bool, true, false, List, [], ◌∷◌, length, get_or, Decides, refl}
+use Rattle.std.proofs.Common.{◌≡◌, ℕ, ◌<◌, Bool, true, false, List, [], ◌∷◌, length, get_or, Decides}
 use Rattle.std.proofs.lemmas.Bool.{false≢true}
 use Rattle.tree.specs.Lines.{Follow, end_of}
 use Rattle.table.specs.State.{State, node_at, children}
@@ -8,9 +8,6 @@ use Rattle.marks.specs.Marks.{plain_kind, harmless, counted, IsConstant, IsPure}
 -- what is false decides nothing but what does not hold
 pub decides_not : {P : Type 0} → (P → ⊥) → Decides false P
 decides_not {P} never = (λ e. absurd (false≢true e), λ p. absurd (never p))
-
-pub decides_yes : {P : Type 0} → P → Decides true P
-decides_yes p = (λ e. p, λ p. refl)
 
 module _ (f : ℕ → List ℕ) (test : ℕ → Bool) where
   abbrev pub Ends : ℕ → Type 0

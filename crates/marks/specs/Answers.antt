@@ -8,10 +8,14 @@ use Rattle.table.specs.State.{State, node_at}
 use Rattle.table.specs.declared.tables.Table.{Table}
 use Rattle.marks.specs.Marks.{IsConstant, IsPure}
 
+-- why a place names no expression: fault 2 at an unknown place, fault 5 at a statement
+abbrev pub NoExpr : State → ℕ → TableFault → Type 0
+NoExpr s n e = ((known s n && not (is_stmt (node_at s n).details.kind)) ≡ false) × (e ≡ cond (known s n) (Misfit n) (Missing n))
+
 -- at an unknown place fault 2, at a statement fault 5, else whether the expression is constant
 abbrev pub ConstantAnswer : State → ℕ → Result Bool TableFault → Type 0
 ConstantAnswer s n (Ok b) = (known s n ≡ true) × (is_stmt (node_at s n).details.kind ≡ false) × Decides b (IsConstant s n)
-ConstantAnswer s n (Err e) = ((known s n && not (is_stmt (node_at s n).details.kind)) ≡ false) × (e ≡ cond (known s n) (Misfit n) (Missing n))
+ConstantAnswer s n (Err e) = NoExpr s n e
 
 -- at an unknown place fault 2, else whether the node is pure
 abbrev pub PureAnswer : State → ℕ → Result Bool TableFault → Type 0

@@ -1,9 +1,6 @@
 -- Inner: a known node, and what its table means. No promise rests on this page. Assumes nothing.
-use Rattle.std.specs.Prelude.{◌≡◌, ℕ, false, cond, not, ◌&&◌}
-use Rattle.node.specs.declared.faults.TableFault.{TableFault}
-use Rattle.node.specs.declared.faults.TableFault.TheVariants.{Missing, Misfit}
+use Rattle.std.specs.Prelude.{◌≡◌, ℕ}
 use Rattle.node.specs.declared.records.Node.{Node}
-use Rattle.table.specs.Facts.{known, is_stmt}
 use Rattle.table.specs.Reads.{table_state}
 use Rattle.table.specs.State.{State, node_at}
 use Rattle.marks.specs.declared.asks.KnownNode.{KnownNode}
@@ -17,7 +14,3 @@ record_of k = node_at (state k) k.n
 -- a node of the same table at this place
 abbrev pub IsAt : KnownNode → ℕ → KnownNode → Type 0
 IsAt k n j = (j.table.now ≡ k.table.now) × (j.n ≡ n)
-
--- why a place names no expression: fault 2 at an unknown place, fault 5 at a statement
-abbrev pub NoExpr : State → ℕ → TableFault → Type 0
-NoExpr s n e = ((known s n && not (is_stmt (node_at s n).details.kind)) ≡ false) × (e ≡ cond (known s n) (Misfit n) (Missing n))

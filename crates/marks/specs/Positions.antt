@@ -2,7 +2,7 @@
 use Rattle.std.specs.Prelude.{◌≡◌, ℕ, ◌+◌, Bool, true, false, cond, not, ◌&&◌, ◌||◌, Ok, Err, Result, nat_lt}
 use Rattle.node.specs.Positions.{none}
 use Rattle.node.specs.declared.faults.TableFault.{TableFault}
-use Rattle.node.specs.declared.faults.TableFault.TheVariants.{Missing, Misfit}
+use Rattle.node.specs.declared.faults.TableFault.TheVariants.{Missing}
 use Rattle.kind.specs.declared.kinds.ExprKind.TheVariants as expr
 use Rattle.kind.specs.declared.kinds.Kind.{Kind}
 use Rattle.kind.specs.declared.kinds.StmtKind.TheVariants as stmt
@@ -16,6 +16,7 @@ use Rattle.table.specs.Facts.{known, kid, is_stmt}
 use Rattle.table.specs.Reads.{table_state, ident_at}
 use Rattle.table.specs.State.{State, node_at, kids, references}
 use Rattle.table.specs.declared.tables.Table.{Table}
+use Rattle.marks.specs.Answers.{NoExpr}
 use Rattle.marks.specs.Marks.{is_stmt_of, is_expr_of}
 
 -- where the first block begins
@@ -79,7 +80,7 @@ StandsAnswer s n (Err e) = (known s n ≡ false) × (e ≡ Missing n)
 
 abbrev pub StartsAnswer : State → ℕ → Result Position TableFault → Type 0
 StartsAnswer s n (Ok p) = (known s n ≡ true) × (is_stmt (node_at s n).details.kind ≡ false) × Starts s n p
-StartsAnswer s n (Err e) = ((known s n && not (is_stmt (node_at s n).details.kind)) ≡ false) × (e ≡ cond (known s n) (Misfit n) (Missing n))
+StartsAnswer s n (Err e) = NoExpr s n e
 
 abbrev pub TableStands : Table → ℕ → Result Position TableFault → Type 0
 TableStands t = StandsAnswer (table_state t)

@@ -17,8 +17,9 @@ pub(crate) struct KnownNode<'t, 'a> {
 }
 
 impl<'t, 'a> KnownNode<'t, 'a> {
-    ghost use Rattle.marks.specs.Asks.{IsAt, NoExpr, record_of, state};
-    ghost use Rattle.node.specs.declared.faults.TableFault.TheVariants.{Missing, Misfit};
+    ghost use Rattle.marks.specs.Answers.{NoExpr};
+    ghost use Rattle.marks.specs.Asks.{IsAt, record_of, state};
+    ghost use Rattle.node.specs.declared.faults.TableFault.TheVariants.{Missing};
     ghost use Rattle.table.specs.Facts.{is_stmt, kid, rank};
     ghost use Rattle.table.specs.Reads.{ident_at, reference_at};
     ghost use Rattle.table.specs.State.{children, kids, node_at, references, total};

@@ -106,9 +106,8 @@ impl KnownNode<'_, '_> {
     pub(crate) fn counted_count(&self) -> usize
         ensures { result ≡ length (counted (state self.now) self.now.n) }
     {
-        let references = self.reference_count();
         let defaults = default_count(self.record().details.second);
-        self.counted_run().count + (references + references + defaults)
+        self.counted_run().count + 2 * self.reference_count() + defaults
     }
 }
 
@@ -143,8 +142,7 @@ impl<'t, 'a> KnownNode<'t, 'a> {
             return self.kid(run.from + i);
         }
         let past = i - run.count;
-        let references = self.reference_count();
-        if past < references + references {
+        if past < 2 * self.reference_count() {
             let arm = self.reference(past / 2);
             if past % 2 == 0 {
                 self.condition(arm)

@@ -34,9 +34,9 @@ impl<'t> KnownNode<'t, '_> {
     pub(crate) fn variable_name(&self, non_qualified: bool) -> Result<Option<View<'t>>, TableFault>
         ensures { MatchResult result (Viewed self.now.table.now.text.now (variable_name non_qualified (record_of self.now).details)) (λ e. Beyond self.now.table.now.text.now (variable_name non_qualified (record_of self.now).details) × (e ≡ Text (record { place = 0 }) self.now.n)) }
     {
-        match variable_name(&self.record().details, non_qualified) {
-            Some(run) => Ok(Some(View::new(self.table.text(), run).at(self.n)?)),
-            None => Ok(None),
-        }
+        let Some(run) = variable_name(&self.record().details, non_qualified) else {
+            return Ok(None);
+        };
+        Ok(Some(View::new(self.table.text(), run).at(self.n)?))
     }
 }

@@ -2,8 +2,8 @@ use Rattle.std.proofs.Common.{◌<◌, length, get_or, arith}
 use Rattle.table.specs.State.{children}
 use Rattle.marks.specs.Asks.{state}
 use Rattle.marks.specs.Marks.{IsConstant}
-use Rattle.marks.proofs.Carried.{carried_back}
-use Rattle.marks.proofs.Lines.{decides_not, decides_yes, constant_from, constant_here, constant_below}
+use Rattle.marks.proofs.Carried.{carried}
+use Rattle.marks.proofs.Lines.{decides_not, constant_here, constant_below}
 use Rattle.marks.proofs.asks.KnownNode.+is_constant.Goals as goal
 
 pub returns-then-not-is_plain : goal.returns-then-not-is_plain
@@ -14,4 +14,4 @@ returns-then-not-is_constant t c =
     let k = c.args.self.now in
     let i = c.loop-i.i in
     let inside : i < length (children (state k) k.n) = omega arith in
-    decides_not (λ p. let h = c.is_constant.ensures.1 (carried_back IsConstant k c.child.result (get_or (children (state k) k.n) i k.n) c.child.ensures (constant_below (state k) k.n i p inside)) in cc)
+    decides_not (λ p. let h = c.is_constant.ensures.1 (carried IsConstant k c.child.result (get_or (children (state k) k.n) i k.n) c.child.ensures (constant_below (state k) k.n i p inside)) in cc)
