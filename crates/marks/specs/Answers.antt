@@ -2,7 +2,8 @@
 use Rattle.std.specs.Prelude.{◌≡◌, ℕ, Bool, true, false, cond, not, ◌&&◌, Ok, Err, Decides, Result}
 use Rattle.node.specs.declared.faults.TableFault.{TableFault}
 use Rattle.node.specs.declared.faults.TableFault.TheVariants.{Missing, Misfit}
-use Rattle.table.specs.Facts.{known, is_stmt}
+use Rattle.kind.specs.Kinds.{is_stmt}
+use Rattle.table.specs.Facts.{known}
 use Rattle.table.specs.Reads.{table_state}
 use Rattle.table.specs.State.{State, node_at}
 use Rattle.table.specs.declared.tables.Table.{Table}

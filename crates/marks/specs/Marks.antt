@@ -1,5 +1,5 @@
 -- The marks of a table: which expressions are constant, and which nodes are pure. Assumes nothing.
-use Rattle.std.specs.Prelude.{◌≡◌, ℕ, Bool, true, false, cond, ◌&&◌, List, ◌++◌, map, ◌==◌, nat_lt}
+use Rattle.std.specs.Prelude.{◌≡◌, ℕ, Bool, true, false, cond, ◌&&◌, List, ◌++◌, map, Some, None, Option, ◌==◌, nat_lt}
 use Rattle.node.specs.Flags.{negated}
 use Rattle.kind.specs.Kinds.{stmt_number, expr_number}
 use Rattle.kind.specs.Shapes.{shape_of}
@@ -64,8 +64,8 @@ is_expr_of k (kind.Expr j) = expr_number j == expr_number k
 
 -- The counted children are the walked ones, but a While counts its condition only, a TryCatch its catch expression
 -- before body and branch, and a default's condition does not count, though its value does.
-abbrev pub counted_blocks : Kind → Blocks
-counted_blocks k = cond (is_stmt_of stmt.While k) blocks.None (cond (is_stmt_of stmt.TryCatch k) blocks.Walked (shape_of k).blocks)
+abbrev pub counted_blocks : Kind → Option Blocks
+counted_blocks k = cond (is_stmt_of stmt.While k) None (cond (is_stmt_of stmt.TryCatch k) (Some blocks.Walked) (shape_of k).blocks)
 
 abbrev pub counted_of : (ℕ → ℕ) → Details → Parts → List ℕ
 counted_of f d p =
@@ -75,11 +75,11 @@ abbrev pub counted : State → ℕ → List ℕ
 counted s i = counted_of (links_of s (node_at s i)) (node_at s i).details (node_at s i).parts
 
 -- a Switch has a default
-abbrev pub has_default : Second → Bool
-has_default second.Nothing = false
-has_default (second.Name i) = false
-has_default (second.Namespace q) = false
-has_default (second.Default arm) = true
+abbrev pub has_default : Option Second → Bool
+has_default None = false
+has_default (Some (second.Name i)) = false
+has_default (Some (second.Namespace q)) = false
+has_default (Some (second.Default arm)) = true
 
 -- a constant is this Boolean
 abbrev pub is_bool : Bool → Constant → Bool
@@ -90,10 +90,10 @@ is_bool b (constant.Float x) = false
 is_bool b (constant.Char x) = false
 is_bool b (constant.Text r) = false
 
-abbrev pub holds_bool : Bool → Payload → Bool
-holds_bool b payload.Nothing = false
-holds_bool b (payload.Constant c) = is_bool b c
-holds_bool b (payload.Spans x y) = false
+abbrev pub holds_bool : Bool → Option Payload → Bool
+holds_bool b None = false
+holds_bool b (Some (payload.Constant c)) = is_bool b c
+holds_bool b (Some (payload.Spans x y)) = false
 
 -- a node is the Boolean constant of this value
 abbrev pub bool_constant : Bool → Details → Bool

@@ -10,18 +10,19 @@ use Rattle.node.specs.declared.records.Run.{Run}
 use Rattle.node.specs.declared.records.Second.{Second}
 use Rattle.node.specs.declared.records.Second.TheVariants as second
 use Rattle.node.specs.declared.texts.View.{View}
-use Rattle.table.specs.Facts.{known, is_stmt}
+use Rattle.kind.specs.Kinds.{is_stmt}
+use Rattle.table.specs.Facts.{known}
 use Rattle.table.specs.Reads.{table_state}
 use Rattle.table.specs.State.{State, node_at}
 use Rattle.table.specs.declared.tables.Table.{Table}
 use Rattle.marks.specs.Marks.{is_expr_of}
 
 -- a namespace stands before the name
-abbrev pub qualified : Second → Bool
-qualified second.Nothing = false
-qualified (second.Name i) = false
-qualified (second.Namespace q) = true
-qualified (second.Default arm) = false
+abbrev pub qualified : Option Second → Bool
+qualified None = false
+qualified (Some (second.Name i)) = false
+qualified (Some (second.Namespace q)) = true
+qualified (Some (second.Default arm)) = false
 
 abbrev pub run_in : Option Ident → Option Run
 run_in None = None

@@ -1,5 +1,6 @@
 -- Where a node stands in the script, and where it starts. Assumes nothing.
-use Rattle.std.specs.Prelude.{◌≡◌, ℕ, ◌+◌, Bool, true, false, cond, not, ◌&&◌, ◌||◌, Ok, Err, Result, nat_lt}
+use Rattle.std.specs.Prelude.{◌≡◌, ℕ, ◌+◌, Bool, true, false, cond, not, ◌&&◌, ◌||◌, Some, None, Ok, Err, Option, Result, nat_lt}
+use Rattle.node.specs.Parts.{kids, references}
 use Rattle.node.specs.Positions.{none}
 use Rattle.node.specs.declared.faults.TableFault.{TableFault}
 use Rattle.node.specs.declared.faults.TableFault.TheVariants.{Missing}
@@ -12,18 +13,19 @@ use Rattle.node.specs.declared.records.Payload.{Payload}
 use Rattle.node.specs.declared.records.Payload.TheVariants as payload
 use Rattle.node.specs.declared.records.Second.{Second}
 use Rattle.node.specs.declared.records.Second.TheVariants as second
-use Rattle.table.specs.Facts.{known, kid, is_stmt}
+use Rattle.kind.specs.Kinds.{is_stmt}
+use Rattle.table.specs.Facts.{known, kid}
 use Rattle.table.specs.Reads.{table_state, ident_at}
-use Rattle.table.specs.State.{State, node_at, kids, references}
+use Rattle.table.specs.State.{State, node_at}
 use Rattle.table.specs.declared.tables.Table.{Table}
 use Rattle.marks.specs.Answers.{NoExpr}
 use Rattle.marks.specs.Marks.{is_stmt_of, is_expr_of}
 
 -- where the first block begins
-abbrev pub block_start : Payload → Position
-block_start payload.Nothing = none
-block_start (payload.Constant c) = none
-block_start (payload.Spans body branch) = body.start
+abbrev pub block_start : Option Payload → Position
+block_start None = none
+block_start (Some (payload.Constant c)) = none
+block_start (Some (payload.Spans body branch)) = body.start
 
 -- a block, a statement or an expression, stands where its list of statements begins
 abbrev pub is_block : Kind → Bool
@@ -48,11 +50,11 @@ abbrev pub has_left : Node → Bool
 has_left n = goes_left n.details.kind && nat_lt 0 n.parts.head
 
 -- a qualified variable starts at its namespace
-abbrev pub at_namespace : Second → Position → Position
-at_namespace second.Nothing p = p
-at_namespace (second.Name i) p = p
-at_namespace (second.Namespace q) p = q
-at_namespace (second.Default arm) p = p
+abbrev pub at_namespace : Option Second → Position → Position
+at_namespace None p = p
+at_namespace (Some (second.Name i)) p = p
+at_namespace (Some (second.Namespace q)) p = q
+at_namespace (Some (second.Default arm)) p = p
 
 abbrev pub own_start : State → ℕ → Position
 own_start s n = cond (is_expr_of expr.Variable (node_at s n).details.kind) (at_namespace (node_at s n).details.second (own_position s n)) (own_position s n)

@@ -7,7 +7,8 @@ use Rattle.kind.specs.declared.kinds.ExprKind.TheVariants as expr
 use Rattle.kind.specs.declared.kinds.Kind.{Kind}
 use Rattle.kind.specs.declared.kinds.StmtKind.TheVariants as stmt
 use Rattle.node.specs.declared.records.Details.{Details}
-use Rattle.table.specs.Facts.{known, is_stmt}
+use Rattle.kind.specs.Kinds.{is_stmt}
+use Rattle.table.specs.Facts.{known}
 use Rattle.table.specs.Reads.{table_state}
 use Rattle.table.specs.State.{node_at}
 use Rattle.table.specs.declared.tables.Table.{Table}

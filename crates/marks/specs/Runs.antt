@@ -1,12 +1,12 @@
 -- Inner: where the code finds the counted children among a node's links, and what it has found so far. No promise
 -- rests on this page. Assumes nothing.
 use Rattle.std.specs.Prelude.{◌≡◌, ℕ, ◌+◌, true, length}
+use Rattle.node.specs.Parts.{references, run_count}
 use Rattle.node.specs.declared.records.Details.{Details}
 use Rattle.node.specs.declared.records.Parts.{Parts}
-use Rattle.table.specs.Finds.{run_count}
 use Rattle.table.specs.Seen.{marked}
 use Rattle.table.specs.declared.seen.Seen.{Seen}
-use Rattle.table.specs.State.{State, references, default_of}
+use Rattle.table.specs.State.{State, default_of}
 use Rattle.marks.specs.Marks.{counted_blocks, IsPure}
 
 -- how many children count

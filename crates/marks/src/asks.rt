@@ -20,9 +20,11 @@ impl<'t, 'a> KnownNode<'t, 'a> {
     ghost use Rattle.marks.specs.Answers.{NoExpr};
     ghost use Rattle.marks.specs.Asks.{IsAt, record_of, state};
     ghost use Rattle.node.specs.declared.faults.TableFault.TheVariants.{Missing};
-    ghost use Rattle.table.specs.Facts.{is_stmt, kid, rank};
+    ghost use Rattle.kind.specs.Kinds.{is_stmt};
+    ghost use Rattle.node.specs.Parts.{kids, links, references};
+    ghost use Rattle.table.specs.Facts.{kid, rank};
     ghost use Rattle.table.specs.Reads.{ident_at, reference_at};
-    ghost use Rattle.table.specs.State.{children, kids, node_at, references, total};
+    ghost use Rattle.table.specs.State.{children};
 
     /// The node at a place; fault 2 where the place names none.
     pub(crate) fn new(table: &'t Table<'a>, n: usize) -> Result<KnownNode<'t, 'a>, TableFault>
@@ -94,7 +96,7 @@ impl<'t, 'a> KnownNode<'t, 'a> {
 
     /// The name that belongs to its link at a number.
     pub(crate) fn ident(&self, k: usize) -> Ident
-        requires { k < total (record_of self.now).parts }
+        requires { k < links (record_of self.now).parts }
         ensures { result ≡ ident_at (state self.now) self.now.n k }
     {
         self.table.ident(self.n, k).unwrap()

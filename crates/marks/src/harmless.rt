@@ -1,29 +1,18 @@
 //! Which nodes do nothing by themselves.
 ghost use Rattle.marks.specs.Asks.{state};
-ghost use Rattle.marks.specs.Marks.{bool_constant, condition_is, expr_harmless, has_default, holds_bool, stmt_harmless};
+ghost use Rattle.marks.specs.Marks.{bool_constant, condition_is, expr_harmless, stmt_harmless};
 ghost use Rattle.std.specs.Prelude.{◌≡◌};
 
 use crate::asks::KnownNode;
 use kind::kinds::{ExprKind, Kind, StmtKind};
-use node::records::{Constant, Details, Payload, Second};
-
-fn holds_bool(payload: Payload, value: bool) -> bool
-    ensures { result ≡ holds_bool value payload }
-{
-    matches!(payload, Payload::Constant(Constant::Bool(x)) if x == value)
-}
+use node::records::{Constant, Details, Payload};
 
 // Whether a node is the Boolean constant of this value.
 fn is_bool_constant(details: &Details, value: bool) -> bool
     ensures { result ≡ bool_constant value details.now }
 {
-    details.kind == Kind::Expr(ExprKind::BoolConstant) && holds_bool(details.payload, value)
-}
-
-fn has_default(second: Second) -> bool
-    ensures { result ≡ has_default second }
-{
-    matches!(second, Second::Default(_))
+    details.kind == Kind::Expr(ExprKind::BoolConstant)
+        && details.payload == Some(Payload::Constant(Constant::Bool(value)))
 }
 
 impl KnownNode<'_, '_> {
@@ -45,7 +34,7 @@ impl KnownNode<'_, '_> {
             | StmtKind::For
             | StmtKind::Block
             | StmtKind::TryCatch => true,
-            StmtKind::Switch => has_default(self.record().details.second),
+            StmtKind::Switch => self.record().details.default_arm().is_some(),
             // A loop that ends at once does nothing, and any other may never end.
             StmtKind::While => self.condition_is(false),
             StmtKind::Do => self.condition_is(self.record().details.flags.is_negated()),

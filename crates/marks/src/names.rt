@@ -10,10 +10,10 @@ use node::faults::{At, TableFault};
 use node::records::{Details, Run, Second};
 use node::texts::View;
 
-fn is_qualified(second: Second) -> bool
+fn is_qualified(second: Option<Second>) -> bool
     ensures { result ≡ qualified second }
 {
-    matches!(second, Second::Namespace(_))
+    matches!(second, Some(Second::Namespace(_)))
 }
 
 // The name of a variable, where there is one to answer.

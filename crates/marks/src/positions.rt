@@ -1,21 +1,20 @@
 //! Where a node stands in the script, and where it starts.
-ghost use Rattle.std.specs.Prelude.{◌≡◌, ◌+◌};
+ghost use Rattle.std.specs.Prelude.{◌≡◌};
 ghost use Rattle.marks.specs.Asks.{state};
 ghost use Rattle.marks.specs.Positions.{Stands, Starts, at_namespace, block_start, goes_left, has_left, is_block, one_expression, own_position, own_start, shares};
-ghost use Rattle.table.specs.State.{kids, references};
 
 use crate::asks::KnownNode;
 use kind::kinds::{ExprKind, Kind, StmtKind};
 use node::positions::Position;
-use node::records::{Node, Parts, Payload, Second};
+use node::records::{Node, Payload, Second};
 
 // Where the first block begins.
-fn block_start(payload: Payload) -> Position
+fn block_start(payload: Option<Payload>) -> Position
     ensures { result ≡ block_start payload }
 {
     match payload {
-        Payload::Spans(body, _) => body.start(),
-        Payload::Nothing | Payload::Constant(_) => Position::NONE,
+        Some(Payload::Spans(body, _)) => body.start(),
+        Some(Payload::Constant(_)) | None => Position::NONE,
     }
 }
 
@@ -32,15 +31,6 @@ fn shares(node: &Node) -> bool
     ensures { result ≡ shares node.now }
 {
     node.details.kind == Kind::Stmt(StmtKind::Share) && node.parts.shared > 0
-}
-
-// The number of the first shared name among a node's links.
-fn first_shared(parts: &Parts) -> usize
-    ensures { result ≡ kids parts.now + references parts.now }
-{
-    let held = parts.head as usize + parts.body as usize + parts.branch as usize;
-    let arms = parts.arms as usize;
-    held + arms + arms + (parts.values as usize + parts.ranges as usize)
 }
 
 fn goes_left(kind: Kind) -> bool
@@ -61,12 +51,12 @@ fn has_left(node: &Node) -> bool
     goes_left(node.details.kind) && node.parts.head > 0
 }
 
-fn at_namespace(second: Second, position: Position) -> Position
+fn at_namespace(second: Option<Second>, position: Position) -> Position
     ensures { result ≡ at_namespace second position }
 {
     match second {
-        Second::Namespace(namespace) => namespace,
-        Second::Nothing | Second::Name(_) | Second::Default(_) => position,
+        Some(Second::Namespace(namespace)) => namespace,
+        Some(Second::Name(_) | Second::Default(_)) | None => position,
     }
 }
 
@@ -85,7 +75,7 @@ impl KnownNode<'_, '_> {
         if is_block(node.details.kind) {
             block_start(node.details.payload)
         } else if shares(&node) {
-            self.ident(first_shared(&node.parts)).pos
+            self.ident(node.parts.kids() + node.parts.references()).pos
         } else {
             node.details.position
         }
@@ -104,7 +94,7 @@ impl KnownNode<'_, '_> {
     }
 
     /// Where it starts: at its left-most expression.
-    #[tactic(auto, using(crate::specs::Positions::here, crate::specs::Positions::left))]
+    #[tactic(auto, using(crate::specs::Positions::left))]
     pub(crate) fn start(&self) -> Position
         ensures { Starts (state self.now) self.now.n result }
     {
