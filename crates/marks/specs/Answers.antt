@@ -9,6 +9,10 @@ use Rattle.table.specs.State.{State, node_at}
 use Rattle.table.specs.declared.tables.Table.{Table}
 use Rattle.marks.specs.Marks.{IsConstant, IsPure}
 
+-- why a place names no node: fault 2 at an unknown place
+abbrev pub NoNode : State → ℕ → TableFault → Type 0
+NoNode s n e = (known s n ≡ false) × (e ≡ Missing n)
+
 -- why a place names no expression: fault 2 at an unknown place, fault 5 at a statement
 abbrev pub NoExpr : State → ℕ → TableFault → Type 0
 NoExpr s n e = ((known s n && not (is_stmt (node_at s n).details.kind)) ≡ false) × (e ≡ cond (known s n) (Misfit n) (Missing n))
@@ -21,7 +25,7 @@ ConstantAnswer s n (Err e) = NoExpr s n e
 -- at an unknown place fault 2, else whether the node is pure
 abbrev pub PureAnswer : State → ℕ → Result Bool TableFault → Type 0
 PureAnswer s n (Ok b) = (known s n ≡ true) × Decides b (IsPure s n)
-PureAnswer s n (Err e) = (known s n ≡ false) × (e ≡ Missing n)
+PureAnswer s n (Err e) = NoNode s n e
 
 -- the same of a table
 abbrev pub TableConstant : Table → ℕ → Result Bool TableFault → Type 0

@@ -1,5 +1,5 @@
 -- Where a node stands in the script, and where it starts. Assumes nothing.
-use Rattle.std.specs.Prelude.{◌≡◌, ℕ, ◌+◌, Bool, true, false, cond, not, ◌&&◌, ◌||◌, Some, None, Ok, Err, Option, Result, nat_lt}
+use Rattle.std.specs.Prelude.{◌≡◌, ℕ, ◌+◌, Bool, true, false, cond, ◌&&◌, ◌||◌, Some, None, Ok, Err, Option, Result, nat_lt}
 use Rattle.node.specs.Parts.{kids, references}
 use Rattle.node.specs.Positions.{none}
 use Rattle.node.specs.declared.faults.TableFault.{TableFault}
@@ -18,7 +18,7 @@ use Rattle.table.specs.Facts.{known, kid}
 use Rattle.table.specs.Reads.{table_state, ident_at}
 use Rattle.table.specs.State.{State, node_at}
 use Rattle.table.specs.declared.tables.Table.{Table}
-use Rattle.marks.specs.Answers.{NoExpr}
+use Rattle.marks.specs.Answers.{NoExpr, NoNode}
 use Rattle.marks.specs.Marks.{is_stmt_of, is_expr_of}
 
 -- where the first block begins
@@ -78,7 +78,7 @@ Stands s n p = Either (one_expression (node_at s n)) (Starts s (kid s n 0) p) (p
 -- how a table answers: fault 2 at an unknown place, and fault 5 where a statement is asked for its start
 abbrev pub StandsAnswer : State → ℕ → Result Position TableFault → Type 0
 StandsAnswer s n (Ok p) = (known s n ≡ true) × Stands s n p
-StandsAnswer s n (Err e) = (known s n ≡ false) × (e ≡ Missing n)
+StandsAnswer s n (Err e) = NoNode s n e
 
 abbrev pub StartsAnswer : State → ℕ → Result Position TableFault → Type 0
 StartsAnswer s n (Ok p) = (known s n ≡ true) × (is_stmt (node_at s n).details.kind ≡ false) × Starts s n p

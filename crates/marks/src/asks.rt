@@ -17,9 +17,8 @@ pub(crate) struct KnownNode<'t, 'a> {
 }
 
 impl<'t, 'a> KnownNode<'t, 'a> {
-    ghost use Rattle.marks.specs.Answers.{NoExpr};
+    ghost use Rattle.marks.specs.Answers.{NoExpr, NoNode};
     ghost use Rattle.marks.specs.Asks.{IsAt, record_of, state};
-    ghost use Rattle.node.specs.declared.faults.TableFault.TheVariants.{Missing};
     ghost use Rattle.kind.specs.Kinds.{is_stmt};
     ghost use Rattle.node.specs.Parts.{kids, links, references};
     ghost use Rattle.table.specs.Facts.{kid, rank};
@@ -28,7 +27,7 @@ impl<'t, 'a> KnownNode<'t, 'a> {
 
     /// The node at a place; fault 2 where the place names none.
     pub(crate) fn new(table: &'t Table<'a>, n: usize) -> Result<KnownNode<'t, 'a>, TableFault>
-        ensures { MatchResult result (λ k. (k.table.now ≡ table.now) × (k.n ≡ n)) (λ e. (known (table_state table.now) n ≡ false) × (e ≡ Missing n)) }
+        ensures { MatchResult result (IsAt table.now n) (NoNode (table_state table.now) n) }
     {
         if table.knows(n) {
             Ok(KnownNode { table, n })
@@ -39,7 +38,7 @@ impl<'t, 'a> KnownNode<'t, 'a> {
 
     /// The expression at a place; fault 2 where the place names no node, fault 5 at a statement.
     pub(crate) fn expr(table: &'t Table<'a>, n: usize) -> Result<KnownNode<'t, 'a>, TableFault>
-        ensures { MatchResult result (λ k. (k.table.now ≡ table.now) × (k.n ≡ n) × (is_stmt (record_of k).details.kind ≡ false)) (λ e. NoExpr (table_state table.now) n e) }
+        ensures { MatchResult result (λ k. IsAt table.now n k × (is_stmt (record_of k).details.kind ≡ false)) (NoExpr (table_state table.now) n) }
     {
         let node = KnownNode::new(table, n)?;
         if node.record().details.kind.is_stmt() {
@@ -59,7 +58,7 @@ impl<'t, 'a> KnownNode<'t, 'a> {
     /// The child that it holds at a number, walked or not.
     pub(crate) fn kid(&self, k: usize) -> KnownNode<'t, 'a>
         requires { k < kids (record_of self.now).parts }
-        ensures kid { IsAt self.now (kid (state self.now) self.now.n k) result }
+        ensures kid { IsAt self.now.table.now (kid (state self.now) self.now.n k) result }
         ensures lower { rank (state self.now) result.n < rank (state self.now) self.now.n }
     {
         KnownNode {
@@ -78,7 +77,7 @@ impl<'t, 'a> KnownNode<'t, 'a> {
     /// Its child at a number, in walk order.
     pub(crate) fn child(&self, i: usize) -> KnownNode<'t, 'a>
         requires { i < length (children (state self.now) self.now.n) }
-        ensures { IsAt self.now (slice_index_or (children (state self.now) self.now.n) i self.now.n) result }
+        ensures { IsAt self.now.table.now (slice_index_or (children (state self.now) self.now.n) i self.now.n) result }
     {
         KnownNode {
             table: self.table,

@@ -48,7 +48,7 @@ impl<'t, 'a> KnownNode<'t, 'a> {
     // The condition of an arm.
     fn condition(&self, arm: usize) -> KnownNode<'t, 'a>
         requires { arm < (record_of self.now).parts.arms }
-        ensures condition { IsAt self.now (condition_of (kid (state self.now) self.now.n) (record_of self.now).parts arm) result }
+        ensures condition { IsAt self.now.table.now (condition_of (kid (state self.now) self.now.n) (record_of self.now).parts arm) result }
         ensures lower { rank (state self.now) result.n < rank (state self.now) self.now.n }
     {
         self.kid(self.record().parts.held() + arm + arm)
@@ -57,7 +57,7 @@ impl<'t, 'a> KnownNode<'t, 'a> {
     // The value of an arm.
     fn value(&self, arm: usize) -> KnownNode<'t, 'a>
         requires { arm < (record_of self.now).parts.arms }
-        ensures value { IsAt self.now (value_of (kid (state self.now) self.now.n) (record_of self.now).parts arm) result }
+        ensures value { IsAt self.now.table.now (value_of (kid (state self.now) self.now.n) (record_of self.now).parts arm) result }
         ensures lower { rank (state self.now) result.n < rank (state self.now) self.now.n }
     {
         self.kid(self.record().parts.held() + arm + arm + 1)
@@ -67,7 +67,7 @@ impl<'t, 'a> KnownNode<'t, 'a> {
     #[tactic(auto, using(crate::proofs::Links::counted_places))]
     pub(crate) fn counted_child(&self, i: usize) -> KnownNode<'t, 'a>
         requires { i < length (counted (state self.now) self.now.n) }
-        ensures child { IsAt self.now (slice_index_or (counted (state self.now) self.now.n) i self.now.n) result }
+        ensures child { IsAt self.now.table.now (slice_index_or (counted (state self.now) self.now.n) i self.now.n) result }
         ensures lower { rank (state self.now) result.n < rank (state self.now) self.now.n }
     {
         let node = self.record();

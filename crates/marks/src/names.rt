@@ -32,7 +32,9 @@ fn variable_name(details: &Details, non_qualified: bool) -> Option<Run>
 impl<'t> KnownNode<'t, '_> {
     /// Its name where it is a variable, as a view of the table's text; fault 4 where the name ends beyond the text.
     pub(crate) fn variable_name(&self, non_qualified: bool) -> Result<Option<View<'t>>, TableFault>
-        ensures { MatchResult result (Viewed self.now.table.now.text.now (variable_name non_qualified (record_of self.now).details)) (λ e. Beyond self.now.table.now.text.now (variable_name non_qualified (record_of self.now).details) × (e ≡ Text (record { place = 0 }) self.now.n)) }
+        ensures { let text = self.now.table.now.text.now in
+            let run = variable_name non_qualified (record_of self.now).details in
+            MatchResult result (Viewed text run) (λ e. Beyond text run × (e ≡ Text (record { place = 0 }) self.now.n)) }
     {
         let Some(run) = variable_name(&self.record().details, non_qualified) else {
             return Ok(None);

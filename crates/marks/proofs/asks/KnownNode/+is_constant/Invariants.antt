@@ -1,5 +1,5 @@
 use Rattle.std.proofs.Common.{ℕ, ◌<◌, get_or}
-use Rattle.table.specs.State.{node_at, children}
+use Rattle.table.specs.State.{children}
 use Rattle.marks.specs.Asks.{state, record_of}
 use Rattle.marks.specs.Marks.{IsConstant}
 use Rattle.marks.proofs.asks.KnownNode.+is_constant.Given as goal
