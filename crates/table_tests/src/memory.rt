@@ -3,7 +3,7 @@ use kind::kinds::{Kind, StmtKind};
 use makers::parts::Block;
 use node::flags::ASTFlags;
 use node::positions::{Position, RawPosition, RawSpan};
-use node::records::{Details, Ident, Link, Node, Parts, Payload, Run, Second, Up};
+use node::records::{Details, Ident, Link, Node, Parts, Run};
 
 pub const AT: RawPosition = RawPosition { line: 3, column: 1 };
 
@@ -24,9 +24,9 @@ pub fn blank_node() -> Node {
             kind: Kind::Stmt(StmtKind::Noop),
             flags: ASTFlags::NONE,
             position: Position::NONE,
-            payload: Payload::Nothing,
+            payload: None,
             first: None,
-            second: Second::Nothing,
+            second: None,
         },
         parts: Parts {
             start: 0,
@@ -38,7 +38,7 @@ pub fn blank_node() -> Node {
             ranges: 0,
             shared: 0,
         },
-        up: Up::Nothing,
+        up: None,
         height: 0,
         lines: 0,
     }
