@@ -1,11 +1,13 @@
 -- The first place that fails a test, one place on. Assumes nothing.
-use Rattle.std.proofs.Common.{◌≡◌, ℕ, zero, suc, ◌+◌, ◌<◌, Bool, true, false, cond, not, ◌⊎◌, List, [], ◌∷◌, ◌++◌, length, get_or, take, drop, Some, None, sym, refl, ap, ◌∙◌, inl, inr, ⊎_elim, arith}
-use Rattle.std.proofs.lemmas.List.{take_more, at_drop_more, append-nil, append_assoc}
-use Rattle.std.proofs.lemmas.Bool.{cond-true, cond-false, cases_Bool, cases_eq, both_ways, and_from, not_from_false}
+use Rattle.std.proofs.Common.{◌≡◌, ℕ, zero, suc, ◌+◌, ◌<◌, ◌≤◌, Bool, true, false, cond, not, eqb, ◌⊎◌, List, [], ◌∷◌, ◌++◌, length, get_or, take, drop, Some, None, sym, refl, ap, ◌∙◌, subst, inl, inr, ⊎_elim, arith}
+use Rattle.std.proofs.lemmas.List.{take_more, at_drop_more, append-nil, append_assoc, get_or-take, get_or_default, length-take-le}
+use Rattle.std.proofs.lemmas.Map.Keys.{IsDistinct-from_apart}
+use Rattle.std.proofs.lemmas.Map.Steps.{length-le_from_distinct_below}
+use Rattle.std.proofs.lemmas.Bool.{cond-true, cond-false, cases_Bool, cases_eq, both_ways, and_from, not_from_false, ne_eqb}
 use Rattle.std.specs.List.{find}
 use Rattle.table.specs.State.{has, distinct}
 use Rattle.table.specs.Tests.{first_failing}
-use Rattle.table.proofs.Has.{has_place, head_is, head_not}
+use Rattle.table.proofs.Has.{has_any, has_at, has_place, head_is, head_not}
 
 module _ (test : List ℕ → ℕ → Bool) (places : List ℕ) (k : ℕ) (within : k < length places) where
   step : first_failing test (take k places) (drop k places)
@@ -25,9 +27,6 @@ find_failing test done (x ∷ xs) = ⊎_elim
     (λ no'. cond-true (not (test x)) _ _ (ap not no') ∙ sym (cond-false (test x) _ _ no'))
     (cases_Bool (test x))
 
-pub some_none : {X : Type 0} {x : X} → Some x ≡ None → ⊥
-some_none e = let z : ◌≡◌ {A = ℕ} 0 1 = cc in omega arith
-
 -- where no place fails, each passed
 pub all_passed : (test : List ℕ → ℕ → Bool) (done xs : List ℕ) → first_failing test done xs ≡ None → (k : ℕ) → k < length xs → test (done ++ take k xs) (get_or xs k 0) ≡ true
 all_passed test done [] e k lt = absurd (omega arith)
@@ -35,7 +34,7 @@ all_passed test done (x ∷ xs) e k lt = go (all_passed test (done ++ x ∷ []) 
   where
     go : (first_failing test (done ++ x ∷ []) xs ≡ None → (j : ℕ) → j < length xs → test ((done ++ x ∷ []) ++ take j xs) (get_or xs j 0) ≡ true)
         → (i : ℕ) → i < suc (length xs) → (test done x ≡ true) ⊎ (test done x ≡ false) → test (done ++ take i (x ∷ xs)) (get_or (x ∷ xs) i 0) ≡ true
-    go rest i within (inr no') = absurd (some_none (sym (cond-false (test done x) (first_failing test (done ++ x ∷ []) xs) (Some x) no') ∙ e))
+    go rest i within (inr no') = let none : Some x ≡ None = sym (cond-false (test done x) (first_failing test (done ++ x ∷ []) xs) (Some x) no') ∙ e in cc
     go rest zero within (inl yes') = ap (λ l. test l x) (append-nil done) ∙ yes'
     go rest (suc i) within (inl yes') =
         ap (λ l. test l (get_or xs i 0)) (sym (append_assoc done (x ∷ []) (take i xs)))
@@ -53,3 +52,13 @@ apart_distinct (x ∷ xs) apart =
   where
     later : (k : ℕ) → k < length xs → has (x ∷ take k xs) (get_or xs k 0) ≡ false → has (take k xs) (get_or xs k 0) ≡ false
     later k lt f = ⊎_elim (λ e. absurd (both_ways _ f (head_is x (take k xs) (get_or xs k 0) e))) (λ ne. sym (head_not x (take k xs) (get_or xs k 0) ne) ∙ f) (cases_eq x (get_or xs k 0))
+
+-- and below a number they are at most that many
+pub apart_few : (n : ℕ) (xs : List ℕ) → ((k : ℕ) → k < length xs → has (take k xs) (get_or xs k 0) ≡ false) → ((k : ℕ) → k < length xs → get_or xs k 0 < n) → length xs ≤ n
+apart_few n xs apart below = length-le_from_distinct_below xs n (IsDistinct-from_apart eqb xs differ) (λ q e. let r = has_place xs q 0 (has_any xs q e) in subst (λ x. x < n) r.2 (below r.0 r.1))
+  where
+    differ : (i j d : ℕ) → i < j → j < length xs → eqb (get_or xs i d) (get_or xs j d) ≡ false
+    differ i j d lt within =
+        ne_eqb (get_or xs i d) (get_or xs j d)
+        (λ e. both_ways _ (apart j within)
+        (subst (λ x. has (take j xs) x ≡ true) (get_or-take j xs i 0 lt ∙ get_or_default xs i 0 d (omega arith) ∙ e ∙ get_or_default xs j d 0 within) (has_at (take j xs) i 0 (omega (arith, length-take-le j xs)))))

@@ -1,7 +1,7 @@
 -- What is known of a draft that no refusal is due for before counts are made. Assumes nothing.
 use Rattle.std.proofs.Common.{◌≡◌, ℕ, zero, suc, ◌+◌, ◌-◌, ◌<◌, ◌≤◌, min, Bool, true, false, not, ◌&&◌, ltb, leb, List, [], ◌∷◌, length, get_or, take, drop, is_some, is_ok, Some, None, Ok, Err, Option, Result, MatchResult, sym, refl, ap, ◌∙◌, subst, ⊎_elim, arith}
 use Rattle.std.proofs.lemmas.List.{length-take-le, get_or-take, get_or-drop, length-drop}
-use Rattle.std.proofs.lemmas.Bool.{and_parts, and_from, leb-true, le-leb, ltb-true, lt-ltb, eqb-true, not-true, cases_lt, both_ways}
+use Rattle.std.proofs.lemmas.Bool.{and_parts, and_from, leb-true, le-leb, ltb-true, lt-ltb, eqb-true, not-true, cases_lt, cases_Bool, both_ways}
 use Rattle.std.proofs.lemmas.Result.{MatchResult-at_ok}
 use Rattle.draft.specs.Details.{details_of, kind_of, second_of, keepable, small, small_constant}
 use Rattle.draft.specs.Drafts.{runs_within, ident_in_range, ident_within, constant_within, run_within}
@@ -35,14 +35,12 @@ use Rattle.table.specs.declared.tables.Table.{Table}
 use Rattle.table.specs.declared.memory.Memory.{Memory}
 use Rattle.table.specs.State.{State, state_of, referred, default_of, has, distinct, node_at, up_number}
 use Rattle.table.specs.Tests.{in_place, is_free}
-use Rattle.table.proofs.Elements.{all_at}
-use Rattle.table.proofs.Failing.{apart_distinct}
+use Rattle.std.proofs.lemmas.List.Folds.{list_all_at}
+use Rattle.table.proofs.Failing.{apart_distinct, apart_few}
 use Rattle.table.proofs.Found.{length_referred, getD_referred_left, getD_referred_right}
 use Rattle.table.proofs.Counted.{table_sound}
-use Rattle.table.proofs.Has.{has_place}
 use Rattle.table.proofs.Kept.{sound_grown}
 use Rattle.table.proofs.Passed.{unless_none, FitParts, fit_parts, or_none, known_passed, place_passed, held_passed, range_passed, text_passed, fit_passed}
-use Rattle.table.proofs.Pigeons.{pigeons}
 
 no_default : (d : Draft) (a : ℕ) → d.default ≡ Some a → no_arms d ≡ true → ⊥
 no_default d a is n = both_ways true (sym (sym (ap (λ o. not (is_some o)) is) ∙ (and_parts _ _ n).1)) refl
@@ -175,7 +173,7 @@ module _ (t : Table) (o : Offer) (none : due_before (table_state t) t.text.now o
   kids_free k lt = eqb-true _ 0 (not_twice k (omega (arith, listed))).0
 
   few : draft_kids d ≤ 4096
-  few = subst (λ n. n ≤ 4096) listed (pigeons 4096 (kid_list d places) kids_once (λ i h. let r = has_place (kid_list d places) i 0 h in omega (arith, r.2, kids_known r.0 (omega (arith, listed, r.1)), t.nodes_fit)))
+  few = subst (λ n. n ≤ 4096) listed (apart_few 4096 (kid_list d places) (λ k lt. (not_twice k lt).1) (λ k lt. omega (arith, kids_known k (omega (arith, listed)), t.nodes_fit)))
 
   default_names : (a : ℕ) → d.default ≡ Some a → a < d.arms
   default_names = default_low (shape_of (kind_of d.kind)).extra d (length idents) parts_fitting.extra
@@ -184,7 +182,7 @@ module _ (t : Table) (o : Offer) (none : due_before (table_state t) t.text.now o
   below k lt =
       let every = (and_parts _ _ (and_parts _ _ (fit_passed text d places idents nd.fit).1).0).1 in
       let inside : k < length (drop (draft_kids d) places) = omega (arith, length-drop (draft_kids d) places, parts_fitting.counted) in
-      subst (λ x. x < d.arms) (get_or-drop (draft_kids d) places k 0) (ltb-true _ _ (all_at (λ arm. ltb arm d.arms) (drop (draft_kids d) places) k 0 every inside))
+      subst (λ x. x < d.arms) (get_or-drop (draft_kids d) places k 0) (ltb-true _ _ (⊎_elim (λ yes'. yes') (λ no'. absurd (both_ways _ (list_all_at (λ arm. ltb arm d.arms) (drop (draft_kids d) places) k 0 inside no') every)) (cases_Bool (ltb (get_or (drop (draft_kids d) places) k 0) d.arms))))
 
   arms_below : (k : ℕ) → k < length (referred (handed_in places) (details_of d) (parts_of d 0 0)) → get_or (referred (handed_in places) (details_of d) (parts_of d 0 0)) k 0 < d.arms
   arms_below k lt = ⊎_elim

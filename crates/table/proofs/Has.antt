@@ -1,6 +1,8 @@
 -- Places in lists. Assumes nothing.
-use Rattle.std.proofs.Common.{◌≡◌, ℕ, zero, suc, ◌<◌, Bool, true, false, cond, eqb, ◌⊎◌, List, [], ◌∷◌, ◌++◌, length, get_or, sym, refl, ap, ◌∙◌, inl, inr, arith}
-use Rattle.std.proofs.lemmas.Bool.{eqb-true, eq-eqb, ne_eqb, cases_Bool, cond-true, cond-false, both_ways}
+use Rattle.std.proofs.Common.{◌≡◌, ℕ, zero, suc, ◌<◌, Bool, true, false, cond, eqb, ◌⊎◌, List, [], ◌∷◌, ◌++◌, length, get_or, replicate, sym, refl, ap, ◌∙◌, inl, inr, ⊎_elim, arith}
+use Rattle.std.proofs.lemmas.Bool.{eqb-true, eq-eqb, ne_eqb, cases_Bool, cond-true, cond-false, both_ways, or_cases, cases_lt}
+use Rattle.std.proofs.lemmas.List.{get_or-replicate, get_or_past, length-replicate}
+use Rattle.std.specs.List.{list_any}
 use Rattle.table.specs.State.{has}
 
 -- a head that is the place, or is not
@@ -35,3 +37,17 @@ has_place (x ∷ xs) j d e = go (has_place xs j d) (cases_Bool (eqb x j))
     go : (has xs j ≡ true → (k : ℕ) × (k < length xs) × (get_or xs k d ≡ j)) → (eqb x j ≡ true) ⊎ (eqb x j ≡ false) → (k : ℕ) × (k < suc (length xs)) × (get_or (x ∷ xs) k d ≡ j)
     go rest (inl y) = (0, omega arith, eqb-true x j y)
     go rest (inr n) = let r = rest (sym (cond-false (eqb x j) true (has xs j) n) ∙ e) in (suc r.0, omega (arith, r.1), r.2)
+
+pub has_any : (xs : List ℕ) (j : ℕ) → list_any (eqb j) xs ≡ true → has xs j ≡ true
+has_any [] j e = e
+has_any (x ∷ xs) j e = ⊎_elim
+    (λ here. head_is x xs j (sym (eqb-true j x here)))
+    (λ there. ap (λ b. cond (eqb x j) true b) (has_any xs j there) ∙ cond_same (eqb x j))
+    (or_cases (eqb j x) (list_any (eqb j) xs) e)
+
+-- no place is marked at first
+pub unmarked : (n j : ℕ) → get_or (replicate n false) j false ≡ false
+unmarked n j =
+    ⊎_elim (λ lt. get_or-replicate n j false false lt)
+    (λ ge. get_or_past (replicate n false) j false (omega (arith, length-replicate n false)))
+    (cases_lt j n)

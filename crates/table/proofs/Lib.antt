@@ -1,12 +1,10 @@
 pub mod Found
-pub mod Elements
 pub mod Adopts
 pub mod Has
 pub mod Agree
 pub mod Kept
 pub mod Failing
 pub mod Keys
-pub mod Pigeons
 pub mod Passed
 pub mod Sized
 pub mod Fitting

@@ -1,5 +1,5 @@
 -- What is known of a draft once tests on it were passed. Assumes nothing.
-use Rattle.std.proofs.Common.{◌≡◌, ℕ, ◌<◌, Bool, true, false, List, [], length, get_or, take, Some, None, Option, Result, Ok, Err, is_err, sym, refl, ap, ◌∙◌, subst, arith}
+use Rattle.std.proofs.Common.{◌≡◌, ℕ, ◌<◌, Bool, true, false, List, [], length, get_or, take, Some, None, Option, Result, Ok, Err, is_err, sym, refl, ap, ◌∙◌, subst}
 use Rattle.std.specs.Option.{option_map}
 use Rattle.std.proofs.lemmas.Bool.{and_parts, eqb-true, ltb-true, both_ways}
 use Rattle.draft.specs.Fits.{fits, handed, fits_head, fits_blocks, fits_extra, fits_value, fits_names}
@@ -19,7 +19,7 @@ use Rattle.table.specs.declared.offers.Offer.{Offer}
 use Rattle.table.specs.declared.tables.Table.{Table}
 use Rattle.table.specs.Tests.{is_known, in_place, not_held}
 use Rattle.tree.specs.Answers.{passed_unless}
-use Rattle.table.proofs.Failing.{all_passed, some_none}
+use Rattle.table.proofs.Failing.{all_passed}
 
 -- the parts of the test on counts and data
 pub record FitParts (x : Shape) (d : Draft) (places idents : ℕ) : Type 0 where
@@ -43,19 +43,19 @@ fit_parts x d places idents e =
 
 pub unless_none : (b : Bool) (f : TableFault) → unless b f ≡ None → b ≡ true
 unless_none true f e = refl
-unless_none false f e = absurd (some_none e)
+unless_none false f e = cc
 
 mapped_none : (f : ℕ → TableFault) (o : Option ℕ) → option_map f o ≡ None → o ≡ None
 mapped_none f None e = refl
-mapped_none f (Some x) e = absurd (some_none e)
+mapped_none f (Some x) e = cc
 
 -- a call that only tests ends with nothing where no refusal is due
 pub passed_none : {F : Type 0} (o : Option F) → Ok tt ≡ passed_unless o → o ≡ None
 passed_none None e = refl
-passed_none (Some f) e = let z : ◌≡◌ {A = ℕ} 0 1 = cc in absurd (omega arith)
+passed_none (Some f) e = cc
 
 pub passed_some : {F : Type 0} (o : Option F) (f : F) → Err f ≡ passed_unless o → o ≡ Some f
-passed_some None f e = let z : ◌≡◌ {A = ℕ} 0 1 = cc in absurd (omega arith)
+passed_some None f e = cc
 passed_some (Some x) f e = cc
 
 -- of two refusals the first that is due is given
@@ -68,7 +68,7 @@ due_here (Some f) b r err is = is
 
 pub or_none : (a b : Option TableFault) → or_else a b ≡ None → (a ≡ None) × (b ≡ None)
 or_none None b e = (refl, e)
-or_none (Some f) b e = absurd (some_none e)
+or_none (Some f) b e = cc
 
 module _ (s : State) (d : Draft) (places : List ℕ) where
   -- the children are known,

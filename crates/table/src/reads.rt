@@ -2,10 +2,10 @@
 ghost use Rattle.node.specs.declared.faults.TableFault.TheVariants.{Missing};
 ghost use Rattle.table.specs.Facts.{kid, known};
 ghost use Rattle.table.specs.Reads.{has_kid, has_link, has_reference, ident_at, reference_at, table_state};
-ghost use Rattle.table.specs.State.{link_at, node_at, state_of};
+ghost use Rattle.table.specs.State.{blank_link, children, link_at, node_at, state_of, walked};
 ghost use Rattle.table.specs.Told.{IsHeight, IsLines};
 ghost use Rattle.tree.specs.Answers.{told};
-ghost use Rattle.std.specs.Prelude.{◌≡◌, ◌+◌, ◌<◌, ◌≤◌, length, drop, nat_lt, if◌then◌else◌};
+ghost use Rattle.std.specs.Prelude.{◌≡◌, ◌+◌, ◌<◌, ◌≤◌, length, drop, nat_lt, slice_index_or, if◌then◌else◌};
 
 use crate::children::Family;
 use crate::memory::Memory;
@@ -15,12 +15,20 @@ use node::records::{Ident, Link, Node};
 use tree::trees::Tree;
 
 impl Memory<'_> {
+    // The links from one on.
+    fn links_from(&self, from: usize) -> &[Link]
+        requires { from ≤ length self.now.links.now }
+        ensures { result.now ≡ drop from self.now.links.now }
+    {
+        &self.links[from..]
+    }
+
     // The link at a number of a run that begins at a link and has so many; none past the last.
     fn link(&self, from: usize, count: usize, k: usize) -> Option<Link>
         requires { from + count ≤ length self.now.links.now }
         ensures { result ≡ (if nat_lt k count then Some (link_at (state_of self.now) (from + k)) else None) }
     {
-        self.links[from..from + count].get(k).copied()
+        self.links_from(from)[..count].get(k).copied()
     }
 }
 
@@ -47,12 +55,10 @@ impl Table<'_> {
     pub(crate) fn family<'f>(&'f self, n: usize, node: &'f Node) -> Family<'f, &'f [Link]>
         requires known { n < (table_state self.now).used }
         requires node { node.now ≡ node_at (table_state self.now) n }
-        ensures details { result.details.now ≡ node.now.details }
-        ensures parts { result.parts.now ≡ node.now.parts }
-        ensures links { result.named.now ≡ drop node.now.parts.start (table_state self.now).links }
+        ensures { walked (λ k. (slice_index_or result.named.now k blank_link).place) result.details.now result.parts.now ≡ children (table_state self.now) n }
     {
         Family {
-            named: &self.memory.links[node.parts.start as usize..],
+            named: self.memory.links_from(node.parts.start as usize),
             details: &node.details,
             parts: &node.parts,
         }
@@ -102,14 +108,16 @@ impl Table<'_> {
     }
 
     /// The number of lines of descent from a node; fault 2 at any other place.
+    #[tactic(auto, using(crate::proofs::Counted::lines_told))]
     pub fn lines(&self, n: usize) -> Result<usize, TableFault>
         ensures value { result ≡ told (known (table_state self.now) n) (node_at (table_state self.now) n).lines (Missing n) }
         ensures counted { IsLines (table_state self.now) n result }
     {
-        Ok(self.node(n)?.lines as usize)
+        self.node(n).map(|node| node.lines as usize)
     }
 
     /// The height of a node, one more than the length of its longest line of descent; fault 2 at any other place.
+    #[tactic(auto, using(crate::proofs::Counted::height_told))]
     pub fn height_of(&self, n: usize) -> Result<usize, TableFault>
         ensures value { result ≡ told (known (table_state self.now) n) (node_at (table_state self.now) n).height (Missing n) }
         ensures longest { IsHeight (table_state self.now) n result }

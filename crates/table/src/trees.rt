@@ -25,7 +25,7 @@ impl<'a> Tree for Table<'a> {
     }
 
     fn height(&self, n: usize) -> Result<usize, TableFault> {
-        Ok(self.node(n)?.height as usize)
+        self.node(n).map(|node| node.height as usize)
     }
 
     fn child_count(&self, n: usize) -> Result<usize, TableFault> {
