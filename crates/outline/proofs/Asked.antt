@@ -3,6 +3,7 @@ use Rattle.std.proofs.Common.{◌≡◌, ◌<◌, [], length, get_or, Bool, true
 use Rattle.std.specs.Prelude.{MatchResult}
 use Rattle.std.specs.Option.{ok_or}
 use Rattle.std.specs.Slice.{IsItemAt}
+use Rattle.std.proofs.lemmas.Grind.{common_steps}
 use Rattle.std.proofs.lemmas.List.{get_or-map, length-map}
 use Rattle.outline.specs.Trees.{IsBranch, known_in, missing_in}
 use Rattle.outline.specs.Items.{items_of}
@@ -16,14 +17,12 @@ module _ (o : Outline) (e : Entry) where
   known is = ap (ltb e.number) o.branches.ok.0 ∙ sym is
 
   is_branch : (b : Branch) → e.number < length (vec_items o.branches) → b ≡ get_or (vec_items o.branches) e.number b → IsBranch o e b
-  is_branch b l is =
-      let bs = vec_items o.branches in
-      let long = length-map bs (λ b. b.item) in
-      record {
-        text = ap (λ b. string_bytes b.item.text) is ∙ ap (λ i. string_bytes i.text) (sym (get_or-map (λ b. b.item) bs e.number b b.item l)) ∙ sym (get_or-map (λ i. string_bytes i.text) (items_of bs) e.number b.item [] (omega arith));
-        height = ap (λ b. b.height) is ∙ sym (get_or-map (λ b. b.height) bs e.number b 0 l);
-        children = ap (λ b. vec_items b.children) is ∙ sym (get_or-map (λ b. vec_items b.children) bs e.number b [] l) ∙ o.parented e.number (omega (arith, length-map bs (λ b. vec_items b.children)));
-      }
+  is_branch b l is = record {
+    text = ap (λ b. string_bytes b.item.text) is ∙ ap (λ i. string_bytes i.text) (sym (get_or-map (λ b. b.item) (vec_items o.branches) e.number b b.item l))
+        ∙ sym (get_or-map (λ i. string_bytes i.text) (items_of (vec_items o.branches)) e.number b.item [] (omega (arith, length-map (vec_items o.branches) (λ b. b.item))));
+    height = grind (arith, common_steps);
+    children = grind (arith, common_steps, o.parented e.number);
+  }
 
   pub branch_told : (r : Option (Bor Branch)) (result : Result (Bor Branch) NoEntry) (branches : List Branch) → result ≡ ok_or r (record { entry = e }) → branches ≡ vec_items o.branches → IsItemAt branches e.number r
       → MatchResult result (λ b. (known_in o e ≡ true) × IsBranch o e b.now) (λ f. (known_in o e ≡ false) × (f ≡ missing_in o e))

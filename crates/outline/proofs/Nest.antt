@@ -1,8 +1,9 @@
 -- One entry more that has its children and its height. Assumes nothing.
-use Rattle.std.proofs.Common.{◌≡◌, ℕ, ◌+◌, ◌-◌, ◌<◌, ◌≤◌, ◌≢◌, List, [], ◌∷◌, ◌++◌, length, get_or, set, drop, replicate, reverse, vec_items, Vec, sym, refl, ap, ◌∙◌, subst, ⊎_elim, arith}
+use Rattle.std.proofs.Common.{◌≡◌, ℕ, ◌+◌, ◌-◌, ◌<◌, ◌≤◌, List, [], ◌∷◌, ◌++◌, length, get_or, set, drop, replicate, reverse, vec_items, Vec, sym, refl, ap, ◌∙◌, subst, arith}
 use Rattle.std.proofs.Math.Seq.{map-set_same}
 use Rattle.std.proofs.lemmas.Bool.{cases_lt}
-use Rattle.std.proofs.lemmas.List.{get_or-map, get_or-set_other, get_or-set_same, length-map, length-set, map-set}
+use Rattle.std.proofs.lemmas.Grind.{common_steps}
+use Rattle.std.proofs.lemmas.List.{get_or-map, length-map, map-set}
 use Rattle.std.specs.declared.alloc.Global.{Global}
 use Rattle.outline.specs.Building.{Nested}
 use Rattle.outline.specs.Items.{branch_depths, children_lists, depths_of, heights_of, items_of, lists_of}
@@ -23,12 +24,15 @@ pub record Nesting (before now : List Branch) (levels : List (List Entry)) (i : 
   pub free : Free (branch_depths before) levels i
 
 pub nesting_none : (before : List Branch) (levels : List (List Entry)) → levels ≡ replicate 65 [] → Nesting before before levels (length before)
-nesting_none before levels e = record {
-  items = refl;
-  children = λ j a b. absurd (omega arith);
-  heights = record { long = length-map before (λ b. b.height) ∙ sym (long_depths before); measured = λ j a b. absurd (omega (arith, long_depths before)); shallow = λ j a b. absurd (omega (arith, long_depths before)) };
-  free = rw e (free_none (branch_depths before) (length before) (omega (arith, long_depths before)));
-}
+nesting_none before levels e =
+    let long = long_depths before in
+    let lengths = length-map before (λ b. b.height) in
+    record {
+      items = refl;
+      children = λ j a b. absurd (omega arith);
+      heights = record { long = omega arith; measured = λ j a b. absurd (omega arith); shallow = λ j a b. absurd (omega arith) };
+      free = rw e (free_none (branch_depths before) (length before) (omega arith));
+    }
 
 module _ (before now : List Branch) (free : List (Vec Entry Global)) (n : ℕ) (some : 0 < n) (end : n ≤ length now) (nesting : Nesting before now (lists_of free) n)
     (stepwise : Stepwise (branch_depths before)) (within : Within (branch_depths before)) where
@@ -36,7 +40,7 @@ module _ (before now : List Branch) (free : List (Vec Entry Global)) (n : ℕ) (
   back = omega arith
 
   known : n - 1 < length (branch_depths before)
-  known = omega (arith, ap length nesting.items, length-map now (λ b. b.item), length-map before (λ b. b.item), long_depths before)
+  known = omega (arith, nesting.heights.long, length-map now (λ b. b.height))
 
   depth_is : (d : Branch) → (get_or now (n - 1) d).item.depth ≡ get_or (branch_depths before) (n - 1) 0
   depth_is d =
@@ -51,9 +55,8 @@ module _ (before now : List Branch) (free : List (Vec Entry Global)) (n : ℕ) (
     children_are : children ≡ children_of (branch_depths before) (n - 1)
     children_are =
         let x = (get_or now (n - 1) d).item.depth in
-        let ds = branch_depths before in
-        let at : vec_items list ≡ get_or (lists_of free) (x + 1) [] = ap vec_items read ∙ sym (get_or-map (λ l. vec_items l) free (x + 1) list [] (room d)) in
-        taken ∙ ap reverse at ∙ nesting.free.each (x + 1) ∙ ap (λ i. kids (x + 1) i (drop i ds)) back ∙ ap (λ x. kids (x + 1) (n - 1 + 1) (drop (n - 1 + 1) ds)) (depth_is d)
+        let at : vec_items list ≡ get_or (lists_of free) (x + 1) [] = grind (arith, common_steps, room d) in
+        taken ∙ ap reverse at ∙ nesting.free.each (x + 1) ∙ ap (λ i. kids (x + 1) i (drop i (branch_depths before))) back ∙ ap (λ x. kids (x + 1) (n - 1 + 1) (drop (n - 1 + 1) (branch_depths before))) (depth_is d)
 
     module _ (h : ℕ) (is : h ≡ highest (heights_of now) children) where
       next : HighFrom (branch_depths before) (heights_of now) (n - 1 + 1)
@@ -71,27 +74,23 @@ module _ (before now : List Branch) (free : List (Vec Entry Global)) (n : ℕ) (
       nesting_more b d' item has height left at more none found pushed =
           let x = (get_or now (n - 1) d).item.depth in
           let ds = branch_depths before in
-          let lists = children_lists now in
           let gone : lists_of (set free (x + 1) left) ≡ set (lists_of free) (x + 1) [] = map-set (λ l. vec_items l) free (x + 1) left ∙ ap (set (lists_of free) (x + 1)) none in
-          let more_is : vec_items more ≡ get_or (lists_of (set free (x + 1) left)) x [] ++ record { number = n - 1 } ∷ [] =
-          pushed ∙ ap (λ es. es ++ record { number = n - 1 } ∷ []) (ap vec_items found ∙ sym (get_or-map (λ l. vec_items l) (set free (x + 1) left) x at [] (omega (arith, room d, length-set free (x + 1) left)))) in
+          let more_is : vec_items more ≡ get_or (lists_of (set free (x + 1) left)) x [] ++ record { number = n - 1 } ∷ [] = grind (arith, common_steps, room d) in
           record {
             items = map-set_same (λ b. b.item) now (n - 1) b d' item ∙ nesting.items;
-            children = λ j a l. rw (map-set (λ b. vec_items b.children) now (n - 1) b)
-                (⊎_elim (λ later. let ne : j ≢ n - 1 = omega arith in get_or-set_other lists (n - 1) j (vec_items b.children) [] ne ∙ nesting.children j (omega arith) (omega (arith, length-set now (n - 1) b)))
-                (λ here. let P : ℕ → Type 0 = λ j. get_or (set lists (n - 1) (vec_items b.children)) j [] ≡ children_of ds j in
-                subst P {x = n - 1} (omega arith) (get_or-set_same lists (n - 1) (vec_items b.children) [] (omega (arith, length-map now (λ b. vec_items b.children))) ∙ has ∙ children_are))
-                (cases_lt (n - 1) j));
+            children = λ j a l. rw (map-set (λ b. vec_items b.children) now (n - 1) b) (grind (arith, common_steps, nesting.children j, children_are, cases_lt (n - 1) j));
             heights = rw (map-set (λ b. b.height) now (n - 1) b, height) (high_more ds (heights_of now) (n - 1) next known (within (n - 1)) (h + 1) (ap (λ m. m + 1) high));
             free = rw (map-set (λ l. vec_items l) (set free (x + 1) left) x more, more_is) (free_more ds (lists_of free) (n - 1) (subst (Free ds (lists_of free)) back nesting.free) known stepwise (within (n - 1)) x (depth_is d) (lists_of (set free (x + 1) left)) gone);
           }
 
 -- at the end all are nested
 pub nested : (before now : List Branch) (free : List (Vec Entry Global)) (i : ℕ) (list : Vec Entry Global) (roots : List Entry) → i ≤ 0 → Nesting before now (lists_of free) i → list ≡ get_or free 0 list → roots ≡ reverse (vec_items list) → Nested before now roots
-nested before now free i list roots e nesting read is = record {
-  items = nesting.items;
-  parented = λ j l. nesting.children j (omega arith) (omega (arith, length-map now (λ b. vec_items b.children)));
-  measured = λ j l. nesting.heights.measured j (omega arith) (omega (arith, nesting.heights.long));
-  shallow = λ j l. nesting.heights.shallow j (omega arith) (omega (arith, nesting.heights.long));
-  rooted = is ∙ ap reverse (ap vec_items read ∙ sym (get_or-map (λ l. vec_items l) free 0 list [] (omega (arith, nesting.free.room, length-map free (λ l. vec_items l))))) ∙ nesting.free.each 0 ∙ ap (λ i. kids 0 i (drop i (branch_depths before))) {x = i} {y = 0} (omega arith);
-}
+nested before now free i list roots e nesting read is =
+    let first : vec_items list ≡ get_or (lists_of free) 0 [] = grind (arith, common_steps, nesting.free.room) in
+    record {
+      items = nesting.items;
+      parented = λ j l. nesting.children j (omega arith) (omega (arith, length-map now (λ b. vec_items b.children)));
+      measured = λ j l. nesting.heights.measured j (omega arith) (omega (arith, nesting.heights.long));
+      shallow = λ j l. nesting.heights.shallow j (omega arith) (omega (arith, nesting.heights.long));
+      rooted = is ∙ ap reverse first ∙ nesting.free.each 0 ∙ ap (λ i. kids 0 i (drop i (branch_depths before))) {x = i} {y = 0} (omega arith);
+    }

@@ -1,6 +1,7 @@
 -- What is left of a line when its ends are trimmed. Assumes nothing.
-use Rattle.std.proofs.Common.{◌≡◌, ℕ, ◌+◌, ◌-◌, ◌<◌, Bool, true, eqb, ltb, List, [], ◌∷◌, ◌++◌, length, get_or, drop, take, reverse, min, Some, None, Option, sym, refl, ap, ◌∙◌, ⊎_elim, arith}
-use Rattle.std.proofs.lemmas.Bool.{cases_eq, cases_Bool, cond-true, cond-false, eq-eqb, eqb-true, lt-ltb, ne_eqb, or_cases}
+use Rattle.std.proofs.Common.{◌≡◌, ℕ, ◌+◌, ◌-◌, ◌<◌, Bool, true, false, List, [], ◌∷◌, ◌++◌, length, get_or, drop, take, reverse, min, Some, None, Option, sym, refl, ap, ◌∙◌, arith}
+use Rattle.std.proofs.lemmas.Bool.Decides.{nat_tests}
+use Rattle.std.proofs.lemmas.Bool.{cases_Bool, cond-true}
 use Rattle.std.proofs.lemmas.List.{drop_all, length_push, length-reverse, reverse-append, take-append-drop, take_all, take_more}
 use Rattle.std.proofs.lemmas.List.Sums.{prefix_len-le-length, suffix_len_is}
 use Rattle.std.proofs.lemmas.List.Folds.{prefix_len-append}
@@ -12,7 +13,7 @@ use Rattle.std.specs.Str.Pattern.{CutsPrefixes, CutsSuffixes, FindsCharPrefix, F
 use Rattle.outline.specs.Reading.{is_blank, spaces, text_end, text_of}
 
 blank_ascii : (b : ℕ) → is_blank b ≡ true → b < 128
-blank_ascii b h = ⊎_elim (λ e. omega (arith, eqb-true b 32 e)) (λ e. omega (arith, eqb-true b 13 e)) (or_cases (eqb b 32) (eqb b 13) h)
+blank_ascii b h = grind (arith, nat_tests)
 
 -- each match cut off the front is a space
 cut_spaces : (s r ns : List ℕ) → CutsPrefixes (FindsCharPrefix 32) s ns r → spaces s + length r ≡ length s + spaces r
@@ -24,7 +25,7 @@ cut_spaces s r (n ∷ ns) (m, cuts, at, is) =
 no_space : (r : List ℕ) → IsFullyTrimmed (FindsCharPrefix 32) r → spaces r ≡ 0
 no_space r (Some n, at, e) = absurd (omega (arith, at.ends, len_utf8_ascii 32 (omega arith)))
 no_space [] (None, at, e) = refl
-no_space (b ∷ r) (None, at, e) = ⊎_elim (λ is. absurd (at r (ap (λ b. b ∷ r) is ∙ sym (ap (λ es. es ++ r) (encode_ascii 32 (omega arith)))))) (λ ne. cond-false (eqb b 32) _ _ (ne_eqb b 32 ne)) (cases_eq b 32)
+no_space (b ∷ r) (None, at, e) = grind (arith, nat_tests, at r, encode_ascii 32)
 
 pub trimmed_start : (s r : List ℕ) → IsTrimStartMatches (FindsCharPrefix 32) s r → length s ≡ spaces s + length r
 trimmed_start s r ((ns, cuts), end) = omega (arith, cut_spaces s r ns cuts, no_space r end)
@@ -53,19 +54,15 @@ no_blank r (Some n, (c, blank, at), e) = absurd (omega (arith, at.ends, len_utf8
 no_blank r (None, at, e) =
     let last = get_or r (length r - 1) 0 in
     let whole : 0 < length r → r ≡ take (length r - 1) r ++ last ∷ [] = λ l. sym (take_all (length r - 1 + 1) r (omega arith)) ∙ take_more r (length r - 1) 0 (omega arith) in
-    omega (arith, suffix_len_is is_blank r (length r) 0 (omega arith) (λ k a b. absurd (omega arith))
-    (λ l. ⊎_elim (λ blank. let b = blank_ascii last blank in at last (take (length r - 1) r) (cond-true (ltb last 55296) true _ (lt-ltb last 55296 (omega arith))) (whole l ∙ ap (λ es. take (length r - 1) r ++ es) (sym (encode_ascii last b)))) (λ f. f) (cases_Bool (is_blank last))))
+    let kept : 0 < length r → is_blank last ≡ false = λ l. grind (arith, nat_tests, blank_ascii last, at last (take (length r - 1) r), encode_ascii last, whole l, cases_Bool (is_blank last)) in
+    omega (arith, suffix_len_is is_blank r (length r) 0 (omega arith) (λ k a b. absurd (omega arith)) kept)
 
 pub trimmed_end : (s r : List ℕ) → IsTrimEndMatches Found s r → length s ≡ suffix_len is_blank s + length r
 trimmed_end s r ((ns, cuts), (o, found, e)) = omega (arith, cut_blanks s r ns cuts, no_blank r (o, found is_blank set_blank, e))
 
 -- what follows in a list counts only where all before it do
 prefix_len-front : (xs ys : List ℕ) → prefix_len is_blank xs ≡ min (prefix_len is_blank (xs ++ ys)) (length xs)
-prefix_len-front xs ys =
-    let l = prefix_len-le-length is_blank xs in
-    ⊎_elim (λ e. omega (arith, prefix_len-append is_blank xs ys ∙ cond-true (eqb (prefix_len is_blank xs) (length xs)) _ _ (eq-eqb _ _ e)))
-    (λ ne. omega (arith, prefix_len-append is_blank xs ys ∙ cond-false (eqb (prefix_len is_blank xs) (length xs)) _ _ (ne_eqb _ _ ne)))
-    (cases_eq (prefix_len is_blank xs) (length xs))
+prefix_len-front xs ys = grind (arith, nat_tests, prefix_len-append is_blank xs ys, prefix_len-le-length is_blank xs)
 
 -- so what is trimmed at both ends is the text
 pub trimmed_text : (s m t : List ℕ) → m ≡ drop (length s - length m) s → length s ≡ spaces s + length m → t ≡ take (length t) m → length m ≡ suffix_len is_blank m + length t → t ≡ text_of s

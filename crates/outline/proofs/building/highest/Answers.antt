@@ -12,5 +12,5 @@ pub returns : goal.returns
 returns c =
     let heights = heights_of c.args.branches.now in
     let most = reduce_from_yields_List (λ p z. max_by_ordering (nat_cmp p z) p z) c.map.result c.max.result c.max.ensures.ran
-        (YieldsList-from_map _ (λ e. get_or heights e.number 0) (YieldsList-from_slice c.args.entries.now cc) c.map.ensures.closure (λ x r q k. search rules)) in
+    (YieldsList-from_map _ (λ e. get_or heights e.number 0) (YieldsList-from_slice c.args.entries.now cc) c.map.ensures.closure (λ x r q k. search rules)) in
     c.unwrap_or.ensures ∙ ap (λ o. unwrap_or o 0) most ∙ max_of_map (λ e. get_or heights e.number 0) c.args.entries.now ∙ highest-fold heights c.args.entries.now

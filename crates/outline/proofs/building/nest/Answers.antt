@@ -1,36 +1,15 @@
 use Rattle.std.proofs.Common.{ap, ◌∙◌, refl, arith, rules, vec_items}
 use Rattle.outline.specs.Items.{heights_of}
 use Rattle.outline.specs.Nesting.{highest}
-use Rattle.outline.proofs.Nest.{nesting_none, nesting_more, nested, height_low, room}
+use Rattle.outline.proofs.Nest.{nesting_more, height_low}
 use Rattle.outline.proofs.building.nest.Goals as goal
-
-pub loop-i-init : goal.loop-i-init
-loop-i-init c = nesting_none _ _ c.in_ok-free.ensures
-
-pub overflow_add-depth : goal.overflow_add-depth
-overflow_add-depth c =
-    let r = room c.args.branches.now c.loop-i.branches (vec_items c.loop-i.free) c.loop-i.i c.loop-i-test.true (omega arith) c.loop-i.invariant c.requires.stepwise c.requires.within c.index-branches-i.result in
-    search rules
-
-pub index_mut-requires : goal.index_mut-requires
-index_mut-requires c =
-    let r = room c.args.branches.now c.loop-i.branches (vec_items c.loop-i.free) c.loop-i.i c.loop-i-test.true (omega arith) c.loop-i.invariant c.requires.stepwise c.requires.within c.index-branches-i.result in
-    omega (arith, r, c.loop-i.free.ok.0)
 
 pub overflow_add-height : goal.overflow_add-height
 overflow_add-height c =
     let low = height_low c.args.branches.now c.loop-i.branches (vec_items c.loop-i.free) c.loop-i.i c.loop-i-test.true (omega arith) c.loop-i.invariant c.requires.stepwise c.requires.within c.index-branches-i.result _ c.index_mut.ensures.value (vec_items c.taken-children.result) c.taken-children.ensures.taken c.highest-height.result (c.highest-height.ensures ∙ ap (highest (heights_of c.loop-i.branches)) c.deref.ensures.value) in
     search rules
 
-pub index_mut-requires-in-loop-i : goal.index_mut-requires-in-loop-i
-index_mut-requires-in-loop-i c =
-    let r = room c.args.branches.now c.loop-i.branches (vec_items c.loop-i.free) c.loop-i.i c.loop-i-test.true (omega arith) c.loop-i.invariant c.requires.stepwise c.requires.within c.index-branches-i.result in
-    omega (arith, r, c.loop-i.free.ok.0)
-
 pub loop-i-preserved : goal.loop-i-preserved
 loop-i-preserved c =
     nesting_more c.args.branches.now c.loop-i.branches (vec_items c.loop-i.free) c.loop-i.i c.loop-i-test.true (omega arith) c.loop-i.invariant c.requires.stepwise c.requires.within c.index-branches-i.result _ c.index_mut.ensures.value (vec_items c.taken-children.result) c.taken-children.ensures.taken c.highest-height.result (c.highest-height.ensures ∙ ap (highest (heights_of c.loop-i.branches)) c.deref.ensures.value)
     _ c.index-branches-i-in-loop-i.result refl refl refl c.taken-children.new.list _ _ c.taken-children.ensures.left c.index_mut-in-loop-i.ensures.value c.in_ok-push.ensures.items
-
-pub returns : goal.returns
-returns c = nested _ _ _ _ c.index_mut-2.result.now _ c.loop-i-test.false c.loop-i.invariant c.index_mut-2.ensures.value c.taken.ensures.taken
