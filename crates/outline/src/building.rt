@@ -61,7 +61,7 @@ fn highest(branches: &[Branch], entries: &[Entry]) -> usize
 }
 
 // Gives each branch its children and its height, and answers with the outermost entries.
-#[tactic(auto, using(crate::proofs::Nest::room, crate::proofs::Nest::nesting_none, crate::proofs::Nest::nested))]
+#[tactic(auto, using(crate::proofs::Nest::room, crate::proofs::Nest::nesting_none))]
 pub(crate) fn nest(heap: Global, branches: &mut [Branch]) -> Result<Vec<Entry>, AllocError>
     requires stepwise { Stepwise (branch_depths branches.old) }
     requires within { Within (branch_depths branches.old) }

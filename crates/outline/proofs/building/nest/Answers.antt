@@ -1,7 +1,7 @@
 use Rattle.std.proofs.Common.{ap, ◌∙◌, refl, arith, rules, vec_items}
 use Rattle.outline.specs.Items.{heights_of}
 use Rattle.outline.specs.Nesting.{highest}
-use Rattle.outline.proofs.Nest.{nesting_more, height_low}
+use Rattle.outline.proofs.Nest.{height_low, nested, nesting_more}
 use Rattle.outline.proofs.building.nest.Goals as goal
 
 pub overflow_add-height : goal.overflow_add-height
@@ -13,3 +13,6 @@ pub loop-i-preserved : goal.loop-i-preserved
 loop-i-preserved c =
     nesting_more c.args.branches.now c.loop-i.branches (vec_items c.loop-i.free) c.loop-i.i c.loop-i-test.true (omega arith) c.loop-i.invariant c.requires.stepwise c.requires.within c.index-branches-i.result _ c.index_mut.ensures.value (vec_items c.taken-children.result) c.taken-children.ensures.taken c.highest-height.result (c.highest-height.ensures ∙ ap (highest (heights_of c.loop-i.branches)) c.deref.ensures.value)
     _ c.index-branches-i-in-loop-i.result refl refl refl c.taken-children.new.list _ _ c.taken-children.ensures.left c.index_mut-in-loop-i.ensures.value c.in_ok-push.ensures.items
+
+pub returns : goal.returns
+returns c = nested _ _ _ _ c.index_mut-2.result.now _ c.loop-i-test.false c.loop-i.invariant c.index_mut-2.ensures.value c.taken.ensures.taken
