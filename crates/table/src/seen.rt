@@ -25,12 +25,13 @@ impl Seen {
         self.marks.get(place).copied().unwrap_or(false)
     }
 
-    /// Marks a place, and leaves every other as it was.
+    /// Marks a place, and leaves every other as it was. No number from 4,096 on is one.
     pub fn mark(&mut self, place: usize)
-        requires { place < 4096 }
-        ensures here { marked self.new place ≡ true }
+        ensures here { place < 4096 → marked self.new place ≡ true }
         ensures others { (j : ℕ) → (j ≢ place) → marked self.new j ≡ marked self.old j }
     {
-        self.marks[place] = true;
+        if place < self.marks.len() {
+            self.marks[place] = true;
+        }
     }
 }
