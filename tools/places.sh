@@ -8,9 +8,8 @@ cd "$(dirname "$0")/.." || exit 2
 point_1() {
     grep -nE '^ +(None|Nothing),$' crates/*/src/*.rt | sed 's/^/1a /'
     grep -nE -e '-> Option<[A-Za-z:]*Fault' crates/*/src/*.rt | sed 's/^/1b /'
-    grep -nE 'fn (show|show_each)<|fn after\(all: bool\)' crates/*/src/*.rt | sed 's/^/1c /'
+    grep -nE 'if !show\(|fn after\(all: bool\)' crates/*/src/*.rt | sed 's/^/1c /'
     grep -nE 'fn (value_number|number)\((value|self|kind)|== [a-z_.]*number\(\)|side: usize|\[0u16; |first: usize, bytes' crates/*/src/*.rt | sed 's/^/1d /'
-    grep -nE '\.unwrap\(\)' crates/*/src/*.rt | sed 's/^/1e /'
 }
 
 # 3: loops over numbers, and loops that move a number
@@ -22,7 +21,7 @@ point_3() {
 point_4() {
     grep -nE '^impl.* (PartialEq|Eq|PartialOrd|Ord|Clone|Copy|fmt::Debug|Debug) for' crates/*/src/*.rt | sed 's/^/4a /'
     grep -nE 'if a \{ b \} else \{ !b \}' crates/*/src/*.rt | sed 's/^/4b /'
-    grep -nE 'fn ([a-z]+_)?typed\(|fn (number|from_number|from_name|plain_ident|ident|position|span|details|constant_kind|value_of|kind_of)\((kind|self|&self|number|name|value|constant|draft)' crates/*/src/*.rt | sed 's/^/4c /'
+    grep -nE 'fn ([a-z]+_)?typed\(|fn (from_number|from_name|plain_ident|constant_kind|value_of|kind_of|details)\(|fn number\(kind|fn (ident|span)\(self\)|fn position\(self\) -> Option<Position>' crates/*/src/*.rt | sed 's/^/4c /'
     grep -nE '^impl.* (fmt::Display|From<.*>|TryFrom<.*>) for' crates/*/src/*.rt | sed 's/^/4d /'
 }
 
@@ -46,8 +45,9 @@ point_7() {
 
 # 8: answers and lemmas
 point_8() {
-    find crates/*/proofs -name Answers.antt | sort | xargs wc -l | sed 's/^/8a /'
-    grep -cE '^(pub )?[a-z_A-Z0-9-]+ : ' crates/*/proofs/*.antt | grep -v ':0$' | sed 's/^/8b /'
+    find crates/*/proofs -name Answers.antt | sort | sed 's/^/8a /'
+    grep -nE '^(pub )?[a-z_A-Z0-9-]+ : goal\.' $(find crates/*/proofs -name Answers.antt) | sed 's/^/8b /'
+    grep -nE '^( *)(pub )?[a-zA-Z][a-z_A-Z0-9≡+-]* : ' crates/*/proofs/*.antt | sed 's/^/8c /'
 }
 
 all() { point_1; point_3; point_4; point_5; point_6; point_7; point_8; }
