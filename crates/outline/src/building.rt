@@ -1,7 +1,7 @@
 //! Which entries are whose children, and how high each is: found from the last entry to the first, so that what is below
 //! an entry is known before it.
 ghost use Rattle.outline.specs.Building.{Nested};
-ghost use Rattle.outline.specs.Items.{branch_depths, depths_of, heights_of, items_of, lists_of};
+ghost use Rattle.outline.specs.Items.{branch_depths, heights_of, items_of, lists_of};
 ghost use Rattle.outline.specs.Nesting.{Stepwise, Within, highest};
 ghost use Rattle.std.specs.Prelude.{◌≡◌, [], IfOk, replicate, reverse, slice_index};
 

@@ -1,6 +1,6 @@
 //! The outline: its entries by number, each with its children.
 ghost use Rattle.std.specs.Prelude.{◌≡◌, ◌≤◌, vec_len};
-ghost use Rattle.outline.specs.Items.{branch_depths, children_lists, depths_of, heights_of, items_of};
+ghost use Rattle.outline.specs.Items.{branch_depths, children_lists, heights_of};
 ghost use Rattle.outline.specs.Nesting.{Measured, Outermost, Parented, Shallow, Stepwise, roots_of};
 
 use crate::entries::Entry;

@@ -1,4 +1,4 @@
-use Rattle.std.proofs.Common.{◌≡◌, vec_items, length, ap, ◌∙◌, arith}
+use Rattle.std.proofs.Common.{◌≡◌, vec_items, length, ap, ◌∙◌, arith, rules}
 use Rattle.std.proofs.lemmas.List.{length-map, with_items_is}
 use Rattle.std.specs.Vec.{with_items}
 use Rattle.outline.specs.Items.{items_of}
@@ -18,5 +18,5 @@ invariant_of-result c =
       parented = rw (is, n.items) n.parented;
       measured = rw (is, n.items) n.measured;
       shallow = rw (is, n.items) n.shallow;
-      rooted = rw (is, n.items) cc;
+      rooted = rw (is, n.items) (search rules);
     }
