@@ -25,8 +25,9 @@ fn walk_roots<V: Visitor<Outline>>(
     path: &mut PathStack<'_, Entry>,
     visitor: &mut V,
 ) -> anyhow::Result<Outcome> {
-    walk_each(outline, outline.roots(), path, visitor)
-        .map_err(|_| anyhow!("the outline is too high for the path"))
+    walk_each(outline, outline.roots(), path, visitor).map_err(|_| anyhow!(
+        "the outline is too high for the path"
+    ))
 }
 
 // Prints the path of each line recorded: a line's path is the start of the path before it, and its own entry.
