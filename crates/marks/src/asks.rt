@@ -18,10 +18,10 @@ pub(crate) struct KnownNode<'t, 'a> {
 
 impl<'t, 'a> KnownNode<'t, 'a> {
     ghost use Rattle.marks.specs.Answers.{NoExpr, NoNode};
-    ghost use Rattle.marks.specs.Asks.{IsAt, record_of, state};
+    ghost use Rattle.marks.specs.Asks.{IsAt, IsKidAt, record_of, state};
     ghost use Rattle.kind.specs.Kinds.{is_stmt};
     ghost use Rattle.node.specs.Parts.{kids, links, references};
-    ghost use Rattle.table.specs.Facts.{kid, rank};
+    ghost use Rattle.table.specs.Facts.{kid};
     ghost use Rattle.table.specs.Reads.{ident_at, reference_at};
     ghost use Rattle.table.specs.State.{children};
 
@@ -58,8 +58,7 @@ impl<'t, 'a> KnownNode<'t, 'a> {
     /// The child that it holds at a number, walked or not.
     pub(crate) fn kid(&self, k: usize) -> KnownNode<'t, 'a>
         requires { k < kids (record_of self.now).parts }
-        ensures kid { IsAt self.now.table.now (kid (state self.now) self.now.n k) result }
-        ensures lower { rank (state self.now) result.n < rank (state self.now) self.now.n }
+        ensures { IsKidAt self.now (kid (state self.now) self.now.n k) result }
     {
         KnownNode {
             table: self.table,

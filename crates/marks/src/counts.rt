@@ -1,9 +1,9 @@
 //! The counted children of a node.
 ghost use Rattle.std.specs.Prelude.{◌≡◌, ◌+◌, ◌<◌, ◌≤◌, length, slice_index_or};
-ghost use Rattle.marks.specs.Asks.{IsAt, record_of, state};
+ghost use Rattle.marks.specs.Asks.{IsKidAt, record_of, state};
 ghost use Rattle.marks.specs.Marks.{counted, counted_blocks};
 ghost use Rattle.node.specs.Parts.{run_count, run_from};
-ghost use Rattle.table.specs.Facts.{kid, rank};
+ghost use Rattle.table.specs.Facts.{kid};
 ghost use Rattle.table.specs.State.{condition_of, value_of};
 
 use crate::asks::KnownNode;
@@ -48,8 +48,7 @@ impl<'t, 'a> KnownNode<'t, 'a> {
     // The condition of an arm.
     fn condition(&self, arm: usize) -> KnownNode<'t, 'a>
         requires { arm < (record_of self.now).parts.arms }
-        ensures condition { IsAt self.now.table.now (condition_of (kid (state self.now) self.now.n) (record_of self.now).parts arm) result }
-        ensures lower { rank (state self.now) result.n < rank (state self.now) self.now.n }
+        ensures { IsKidAt self.now (condition_of (kid (state self.now) self.now.n) (record_of self.now).parts arm) result }
     {
         self.kid(self.record().parts.held() + arm + arm)
     }
@@ -57,8 +56,7 @@ impl<'t, 'a> KnownNode<'t, 'a> {
     // The value of an arm.
     fn value(&self, arm: usize) -> KnownNode<'t, 'a>
         requires { arm < (record_of self.now).parts.arms }
-        ensures value { IsAt self.now.table.now (value_of (kid (state self.now) self.now.n) (record_of self.now).parts arm) result }
-        ensures lower { rank (state self.now) result.n < rank (state self.now) self.now.n }
+        ensures { IsKidAt self.now (value_of (kid (state self.now) self.now.n) (record_of self.now).parts arm) result }
     {
         self.kid(self.record().parts.held() + arm + arm + 1)
     }
@@ -67,8 +65,7 @@ impl<'t, 'a> KnownNode<'t, 'a> {
     #[tactic(auto, using(crate::proofs::Links::counted_places))]
     pub(crate) fn counted_child(&self, i: usize) -> KnownNode<'t, 'a>
         requires { i < length (counted (state self.now) self.now.n) }
-        ensures child { IsAt self.now.table.now (slice_index_or (counted (state self.now) self.now.n) i self.now.n) result }
-        ensures lower { rank (state self.now) result.n < rank (state self.now) self.now.n }
+        ensures { IsKidAt self.now (slice_index_or (counted (state self.now) self.now.n) i self.now.n) result }
     {
         let node = self.record();
         let stretch = self.counted_stretch();
