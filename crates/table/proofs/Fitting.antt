@@ -25,7 +25,7 @@ use Rattle.node.specs.declared.faults.TableFault.TheVariants.{Full}
 use Rattle.kind.specs.declared.shapes.Shape.{Shape}
 use Rattle.kind.specs.declared.shapes.Extra.{Extra}
 use Rattle.kind.specs.declared.shapes.Extra.TheVariants as extra
-use Rattle.table.specs.Fresh.{Fresh, Ready}
+use Rattle.table.proofs.Fresh.{Fresh, Ready}
 use Rattle.table.specs.Facts.{Sound}
 use Rattle.table.specs.Grows.{Grown, new_link}
 use Rattle.table.specs.Puts.{kid_list, parts_of, handed_in, due_before, due_known, due_range, due_text, due_fit, due_place, due_held, stored_due, or_else, unless, shared_of, due_room, due_size, put_refusal, height_of, lines_of, node_of}

@@ -9,7 +9,7 @@ use Rattle.node.specs.declared.records.Link.{Link}
 use Rattle.node.specs.declared.records.Node.{Node}
 use Rattle.node.specs.declared.records.Up.TheVariants as up
 use Rattle.table.specs.Facts.{Sound, kid, Holds, Under, Refers, Walks, takes_stmt}
-use Rattle.table.specs.Fresh.{Fresh}
+use Rattle.table.proofs.Fresh.{Fresh}
 use Rattle.table.specs.Grows.{Grown, with_up}
 use Rattle.table.specs.State.{State, node_at, link_at, links_of, named, referred, walked, children, held, arms_referred, has, distinct, up_number, highest, all_lines}
 use Rattle.table.proofs.Agree.{named_agrees, walked_held, referred_agrees, walked_agrees, highest_agrees, lines_agree, highest_above}

@@ -1,3 +1,4 @@
+pub mod Fresh
 pub mod Found
 pub mod Adopts
 pub mod Has

@@ -7,7 +7,7 @@ use Rattle.node.specs.declared.faults.TableFault.TheVariants.{Size}
 use Rattle.kind.specs.declared.shapes.Extra.{Extra}
 use Rattle.kind.specs.declared.shapes.Extra.TheVariants as extra
 use Rattle.table.specs.Facts.{Sound}
-use Rattle.table.specs.Fresh.{Ready}
+use Rattle.table.proofs.Fresh.{Ready}
 use Rattle.table.specs.Puts.{unless, shared_of, parts_of, handed_in, height_of, lines_of, due_size}
 use Rattle.table.specs.State.{State, node_at, walked, all_lines}
 use Rattle.table.proofs.Agree.{walked_held}

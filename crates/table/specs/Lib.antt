@@ -3,7 +3,6 @@ pub mod Finds
 pub mod Facts
 pub mod Trees
 pub mod Grows
-pub mod Fresh
 pub mod Tests
 pub mod Reads
 pub mod Puts

@@ -2,8 +2,7 @@
 ghost use Rattle.std.specs.Prelude.{◌≡◌, ◌+◌, ◌<◌, ◌≤◌, ◌&&◌, Some, None, MatchResult, length, min, nat_le, nat_lt};
 ghost use Rattle.draft.specs.Details.{details_of};
 ghost use Rattle.node.specs.declared.faults.TableFault.TheVariants.{Full};
-ghost use Rattle.table.specs.Fresh.{Ready};
-ghost use Rattle.table.specs.Puts.{due_size, height_of, lines_of, node_of, put_refusal, unless};
+ghost use Rattle.table.specs.Puts.{due_before, due_size, height_of, lines_of, node_of, put_refusal, unless};
 ghost use Rattle.table.specs.Reads.{table_state};
 ghost use Rattle.tree.specs.Answers.{passed_unless};
 
@@ -17,8 +16,9 @@ use node::records::{Details, Node};
 
 impl Table<'_> {
     // The height and the lines of a node to be put; fault 7 where they are too large.
+    #[tactic(auto, using(crate::proofs::Fitting::ready))]
     fn sized(&self, offer: &Offer<'_>, details: &Details) -> Result<Measure, TableFault>
-        requires ready { Ready (table_state self.now) offer.now.draft.now offer.now.places.now }
+        requires before { due_before (table_state self.now) self.now.text.now offer.now.draft.now offer.now.places.now offer.now.idents.now offer.now.values ≡ None }
         requires details { details.now ≡ details_of offer.now.draft.now }
         ensures { MatchResult result (λ m. (due_size (table_state self.now) offer.now.draft.now offer.now.places.now ≡ None) × (m.height ≡ height_of (table_state self.now) offer.now.draft.now offer.now.places.now) × (m.lines ≡ lines_of (table_state self.now) offer.now.draft.now offer.now.places.now)) (λ f. due_size (table_state self.now) offer.now.draft.now offer.now.places.now ≡ Some f) }
     {

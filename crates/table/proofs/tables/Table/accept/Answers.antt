@@ -18,7 +18,7 @@ sized-requires c =
     let t = c.args.self.now in
     let o = c.args.offer.now in
     let none = before_passed t o c.in_ok-check_before.ensures in
-    record { ready = ready t o none; details = details_are o.draft.now c.details.result c.unwrap-details.result c.unwrap-details.ensures c.details.ensures }
+    record { before = none; details = details_are o.draft.now c.details.result c.unwrap-details.result c.unwrap-details.ensures c.details.ensures }
 
 pub narrow-requires : goal.narrow-requires
 narrow-requires c =

@@ -1,5 +1,5 @@
--- Inner: what is known of a node that is about to be put, once every refusal was tested. Assumes nothing.
-use Rattle.std.specs.Prelude.{◌≡◌, ℕ, suc, ◌+◌, ◌<◌, ◌≤◌, min, true, List, length, slice_index}
+-- What is known of a node that is about to be put, once every refusal was tested. Assumes nothing.
+use Rattle.std.proofs.Common.{◌≡◌, ℕ, suc, ◌+◌, ◌<◌, ◌≤◌, min, true, List, length, slice_index}
 use Rattle.kind.specs.Kinds.{is_stmt}
 use Rattle.node.specs.Parts.{kids}
 use Rattle.node.specs.Parts as parts
