@@ -3,7 +3,6 @@ use Rattle.std.specs.Prelude.{◌≡◌, ℕ, ◌+◌, Bool, true, false, cond, 
 use Rattle.node.specs.Parts.{kids, references}
 use Rattle.node.specs.Positions.{none}
 use Rattle.node.specs.declared.faults.TableFault.{TableFault}
-use Rattle.node.specs.declared.faults.TableFault.TheVariants.{Missing}
 use Rattle.kind.specs.declared.kinds.ExprKind.TheVariants as expr
 use Rattle.kind.specs.declared.kinds.Kind.{Kind}
 use Rattle.kind.specs.declared.kinds.StmtKind.TheVariants as stmt

@@ -29,7 +29,7 @@ fn is_plain(kind: Kind) -> bool
 
 impl KnownNode<'_, '_> {
     /// Whether it is constant: it is of such a kind, and so are all below it.
-    #[tactic(auto, using(crate::proofs::Lines::constant_from))]
+    #[tactic(auto, using(crate::proofs::Lines::constant_from, crate::proofs::Lines::constant_not_here, crate::proofs::Lines::constant_not_below))]
     pub(crate) fn is_constant(&self) -> bool
         ensures { Decides result (IsConstant (state self.now) self.now.n) }
     {

@@ -50,7 +50,7 @@ impl KnownNode<'_, '_> {
 
     // Whether a node that does nothing by itself is pure: whether its counted children are. It is asked once, then marked.
     #[cycle(purity)]
-    #[tactic(auto, using(crate::proofs::Lines::pure_from, crate::proofs::Lines::pure_below))]
+    #[tactic(auto, using(crate::proofs::Lines::pure_from, crate::proofs::Lines::pure_not_below))]
     fn harmless_is_pure(&self, found: &mut Seen) -> bool
         requires harmless { harmless (state self.now) self.now.n ≡ true }
         requires found { AllPure (state self.now) found.old }
