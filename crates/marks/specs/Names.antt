@@ -9,7 +9,7 @@ use Rattle.node.specs.declared.records.Ident.{Ident}
 use Rattle.node.specs.declared.records.Run.{Run}
 use Rattle.node.specs.declared.records.Second.{Second}
 use Rattle.node.specs.declared.records.Second.TheVariants as second
-use Rattle.node.specs.declared.texts.View.{View}
+use Rattle.node.specs.declared.views.View.{View}
 use Rattle.kind.specs.Kinds.{is_stmt}
 use Rattle.table.specs.Facts.{known}
 use Rattle.table.specs.Reads.{table_state}

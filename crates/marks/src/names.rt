@@ -8,7 +8,7 @@ use crate::asks::KnownNode;
 use kind::kinds::{ExprKind, Kind};
 use node::faults::{At, TableFault};
 use node::records::{Details, Run, Second};
-use node::texts::View;
+use node::views::View;
 
 fn is_qualified(second: Option<Second>) -> bool
     ensures { result ≡ qualified second }

@@ -7,7 +7,7 @@ ghost use Rattle.node.specs.declared.faults.TableFault.{TableFault};
 ghost use Rattle.node.specs.declared.flags.ASTFlags.{ASTFlags};
 ghost use Rattle.kind.specs.declared.kinds.Kind.TheVariants.{Stmt};
 ghost use Rattle.node.specs.declared.positions.Position.{Position};
-ghost use Rattle.node.specs.declared.texts.View.{View};
+ghost use Rattle.node.specs.declared.views.View.{View};
 
 use crate::asks::KnownNode;
 use kind::kinds::{ExprKind, Kind, StmtKind};
@@ -15,7 +15,7 @@ use node::faults::TableFault;
 use node::flags::ASTFlags;
 use node::positions::Position;
 use node::records::Details;
-use node::texts::View;
+use node::views::View;
 use table::tables::Table;
 
 // Whether a kind has options.

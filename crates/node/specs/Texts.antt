@@ -1,7 +1,7 @@
 -- Runs of a text, and views of them. Assumes nothing.
 use Rattle.std.specs.Prelude.{◌≡◌, ℕ, ◌+◌, ◌≤◌, List, length, take, drop}
 use Rattle.node.specs.declared.records.Run.{Run}
-use Rattle.node.specs.declared.texts.View.{View}
+use Rattle.node.specs.declared.views.View.{View}
 
 -- the bytes from `start` on, `len` of them so far as the text goes
 abbrev pub part_of : List ℕ → ℕ → ℕ → List ℕ

@@ -7,3 +7,4 @@ pub mod parts;
 pub mod positions;
 pub mod records;
 pub mod texts;
+pub mod views;

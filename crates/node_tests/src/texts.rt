@@ -1,7 +1,8 @@
 //! Runs of a text, and views of them.
 use draft::drafts::{Lying, RawRun};
 use node::records::Run;
-use node::texts::{View, check_text};
+use node::texts::check_text;
+use node::views::View;
 use std::test::Fail;
 use tree::faults::Fault;
 
