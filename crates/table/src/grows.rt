@@ -1,7 +1,7 @@
 //! The writes of a put: links, then what the children stand under, then the node.
-ghost use Rattle.std.specs.Prelude.{◌≡◌, ℕ, ◌+◌, ◌<◌, ◌≤◌, true, length, take, slice_index, slice_index_or, slice_set};
+ghost use Rattle.std.specs.Prelude.{◌≡◌, ℕ, ◌+◌, ◌<◌, ◌≤◌, length, take, slice_index, slice_index_or};
 ghost use Rattle.node.specs.Parts.{kids, links};
-ghost use Rattle.table.specs.Grows.{Grown, SameLoans, adopted, new_link, with_up};
+ghost use Rattle.table.specs.Grows.{Grown, SameLoans, adopted, new_link};
 ghost use Rattle.table.specs.State.{blank, blank_link, state_of};
 
 use crate::links::NewLinks;

@@ -1,11 +1,11 @@
-//! The record of a node to be put: its parts as they are kept, and whether its height and lines fit.
-ghost use Rattle.std.specs.Prelude.{◌≡◌, ◌+◌, ◌≤◌, ◌&&◌, None, nat_le};
+//! The parts of a node to be put as they are kept, and whether its height and lines fit.
+ghost use Rattle.std.specs.Prelude.{◌≡◌, ◌+◌, ◌≤◌, ◌&&◌, nat_le};
 ghost use Rattle.table.specs.Puts.{shared_of};
 
 use crate::measures::Measure;
 use draft::drafts::Draft;
 use kind::shapes::Extra;
-use node::records::{Details, Node, Parts};
+use node::records::Parts;
 
 // How many links shared names take.
 pub(crate) fn shared_count(extra: Option<Extra>, idents: usize) -> usize
