@@ -73,8 +73,11 @@ impl Table<'_> {
         requires { due_known (table_state self.now) offer.now.draft.now offer.now.places.now ≡ None }
         ensures { result ≡ passed_unless (due_held (table_state self.now) offer.now.draft.now offer.now.places.now) }
     {
-        let mut seen = Seen::none();
         let kids = offer.kid_places();
+        if kids.is_empty() {
+            return Ok(());
+        }
+        let mut seen = Seen::none();
         for kid in kids {
             if !self.is_free(*kid) || seen.has(*kid) {
                 return Err(TableFault::Held(*kid));
