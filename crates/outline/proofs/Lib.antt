@@ -4,3 +4,4 @@ pub mod Heights
 pub mod Kids
 pub mod Nest
 pub mod Reading
+pub mod Visiting

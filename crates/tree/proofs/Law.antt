@@ -3,11 +3,11 @@ use Rattle.std.proofs.Common.{◌≡◌, ℕ, zero, suc, ◌<◌, ◌≤◌, Boo
 use Rattle.std.proofs.lemmas.Bool.{cases_lt, true≢false}
 use Rattle.std.specs.List.{flat_map}
 use Rattle.tree.specs.Forests.{FollowEach, along_each}
-use Rattle.tree.specs.Lines.{Before, In, Ascending, AllOf, Follow, TreeLaw}
+use Rattle.tree.specs.Lines.{Before, In, Ascending, AllLines, AllOf, Follow, TreeLaw}
 use Rattle.tree.specs.Runs.{paths, refused_path, run}
 use Rattle.tree.specs.Walks.{Accepted, WalkLaw, WalkLawOf, after, path_of}
 use Rattle.tree.specs.declared.walks.Outcome.{Outcome}
-use Rattle.tree.specs.declared.walks.Outcome.TheVariants.{Finished}
+use Rattle.tree.specs.declared.walks.Outcome.TheVariants.{Finished, Stopped}
 use Rattle.tree.proofs.Listed.{branches, each_listed, each_paths, lines, listed, paths_are}
 use Rattle.tree.proofs.Order.{stands_before, stands_once}
 
@@ -117,24 +117,39 @@ module _ {S N : Type 0} (Line : List ℕ → Type 0) (f : List ℕ → List N) (
   }
 
 -- the walk law of a walk that ended as a run over the paths of all lines did
-walk_law : {S N : Type 0} (Line : List ℕ → Type 0) (f : List ℕ → List N) (next : S → List N → S) (accepts : S → List N → Bool) (initial left : List N) (s s' : S)
+law_of : {S N : Type 0} (Line : List ℕ → Type 0) (f : List ℕ → List N) (next : S → List N → S) (accepts : S → List N → Bool) (initial left : List N) (s s' : S)
     (ls : List (List ℕ)) → AllOf Line ls → (outcome : Outcome) → run next accepts s (map f ls) ≡ (s', refused_path outcome left) → (outcome ≡ Finished → left ≡ initial)
     → (part : List (List ℕ)) × WalkLawOf Line f next accepts initial s outcome left s' part
-walk_law Line f next accepts initial left s s' ls all_lines outcome e back =
+law_of Line f next accepts initial left s s' ls all_lines outcome e back =
     let part = shown next accepts f s ls in
     let p = subst (Part next accepts f s ls part) e (part_of next accepts f s ls) in
     (part, law Line f next accepts s ls all_lines part _ p outcome initial left refl back)
+
+-- the same where a Boolean tells whether the run got no no
+module _ {S N : Type 0} (Line : List ℕ → Type 0) (f : List ℕ → List N) (next : S → List N → S) (accepts : S → List N → Bool) (initial left : List N) (s s' : S)
+    (ls : List (List ℕ)) (all_lines : AllOf Line ls) where
+  pub walk_law_of : (r : Bool) → run next accepts s (map f ls) ≡ (s', cond r None (Some left)) → (r ≡ true → left ≡ initial)
+      → (part : List (List ℕ)) × WalkLawOf Line f next accepts initial s (cond r Finished Stopped) left s' part
+  walk_law_of true e back = law_of Line f next accepts initial left s s' ls all_lines Finished e (λ _. back refl)
+  walk_law_of false e back = law_of Line f next accepts initial left s s' ls all_lines Stopped e (λ is. cc)
+
+-- and over the lines of descent from one name
+module _ {S N : Type 0} (children : N → List N) (next : S → List N → S) (accepts : S → List N → Bool) (start : N) (initial left : List N) (s s' : S)
+    (ls : List (List ℕ)) (all_lines : AllLines children start ls) where
+  pub walk_law : (r : Bool) → run next accepts s (map (path_of children initial start) ls) ≡ (s', cond r None (Some left)) → (r ≡ true → left ≡ initial)
+      → (part : List (List ℕ)) × WalkLaw children next accepts start initial s (cond r Finished Stopped) left s' part
+  walk_law r e back = walk_law_of (Follow children start) (path_of children initial start) next accepts initial left s s' ls all_lines r e back
 
 -- of a walk over the lines of descent from a start, and over the lines from several names
 module _ {S N : Type 0} {known : N → Bool} {heights : N → ℕ} {children : N → List N} (law : TreeLaw known heights children) (next : S → List N → S) (accepts : S → List N → Bool) (s s' : S) (outcome : Outcome) (left : List N) where
   pub walked : (start : N) (initial : List N) → known start ≡ true → run next accepts s (paths children 64 initial start) ≡ (s', refused_path outcome left) → (outcome ≡ Finished → left ≡ initial)
       → (shown : List (List ℕ)) × WalkLaw children next accepts start initial s outcome left s' shown
   walked start initial k ran back =
-      walk_law (Follow children start) (path_of children initial start) next accepts initial left s s' (lines children 64 start) (listed children law 64 start k (law.high start k)) outcome
+      law_of (Follow children start) (path_of children initial start) next accepts initial left s s' (lines children 64 start) (listed children law 64 start k (law.high start k)) outcome
       (ap (run next accepts s) (sym (paths_are children 64 start initial)) ∙ ran) back
 
   pub walked_each : (roots : List N) → All (λ n. known n ≡ true) roots → run next accepts s (flat_map (paths children 64 []) roots) ≡ (s', refused_path outcome left) → (outcome ≡ Finished → left ≡ [])
       → (shown : List (List ℕ)) × WalkLawOf (FollowEach children roots) (along_each children roots) next accepts [] s outcome left s' shown
   walked_each roots k ran back =
-      walk_law (FollowEach children roots) (along_each children roots) next accepts [] left s s' (branches (lines children 64) 0 roots) (each_listed children law roots k) outcome
+      law_of (FollowEach children roots) (along_each children roots) next accepts [] left s s' (branches (lines children 64) 0 roots) (each_listed children law roots k) outcome
       (ap (run next accepts s) (sym (each_paths children 64 roots)) ∙ ran) back
