@@ -1,6 +1,6 @@
 //! Where a node stands in the script, and where it starts.
-ghost use Rattle.std.specs.Prelude.{◌≡◌};
-ghost use Rattle.marks.specs.Asks.{state};
+ghost use Rattle.std.specs.Prelude.{◌≡◌, false};
+ghost use Rattle.marks.specs.Asks.{record_of, state};
 ghost use Rattle.marks.specs.Positions.{Stands, Starts, at_namespace, block_start, goes_left, has_left, is_block, one_expression, own_position, own_start, shares};
 
 use crate::asks::KnownNode;
@@ -66,7 +66,7 @@ fn one_expression(node: &Node) -> bool
     node.details.kind == Kind::Stmt(StmtKind::Expr) && node.parts.head > 0
 }
 
-impl KnownNode<'_, '_> {
+impl<'t, 'a> KnownNode<'t, 'a> {
     // The position of a node that is no statement Expr.
     fn own_position(&self) -> Position
         ensures { result ≡ own_position (state self.now) self.now.n }
@@ -93,16 +93,24 @@ impl KnownNode<'_, '_> {
         }
     }
 
+    // Its left-most expression.
+    fn left_most(&self) -> KnownNode<'t, 'a>
+        ensures table { result.table.now ≡ self.now.table.now }
+        ensures ends { has_left (record_of result) ≡ false }
+        ensures starts { (p : Position) → Starts (state result) result.n p → Starts (state self.now) self.now.n p }
+    {
+        let mut at = *self;
+        while has_left(&at.record()) {
+            at = at.kid(0);
+        }
+        at
+    }
+
     /// Where it starts: at its left-most expression.
-    #[tactic(auto, using(crate::specs::Positions::left))]
     pub(crate) fn start(&self) -> Position
         ensures { Starts (state self.now) self.now.n result }
     {
-        if has_left(&self.record()) {
-            self.kid(0).start()
-        } else {
-            self.own_start()
-        }
+        self.left_most().own_start()
     }
 
     /// Where it stands.
