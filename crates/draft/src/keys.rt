@@ -12,6 +12,9 @@ const BUCKETS: usize = 1024;
 // How many keys are put into buckets at most.
 const CHAINED: usize = 4096;
 
+// How many keys are few: for these less memory is made ready.
+const FEW: usize = 256;
+
 impl RawIdent {
     /// The bytes of its name, so far as the text goes.
     pub fn bytes(self, text: &[u8]) -> &[u8]
@@ -81,14 +84,15 @@ fn on_chain(
     false
 }
 
-// By comparing each key with those before it in its bucket.
+// By comparing each key with those before it in its bucket, for at most so many keys.
 #[tactic(auto, using(crate::proofs::Chains::bucket_low))]
-fn distinct_by_chains(text: &[u8], keys: &[RawIdent]) -> bool
-    requires { length keys.now ≤ 4096 }
+fn distinct_by_chains<const N: usize>(text: &[u8], keys: &[RawIdent]) -> bool
+    requires room { length keys.now ≤ N }
+    requires small { N ≤ 4096 }
     ensures { Decides result (Distinct text.now keys.now) }
 {
     let mut heads = [None; BUCKETS];
-    let mut next = [None; CHAINED];
+    let mut next = [None; N];
     for (i, key) in keys.iter().enumerate() {
         let bytes = key.bytes(text);
         let head = &mut heads[bucket(bytes)];
@@ -104,8 +108,10 @@ fn distinct_by_chains(text: &[u8], keys: &[RawIdent]) -> bool
 pub fn keys_distinct(text: &[u8], keys: &[RawIdent]) -> bool
     ensures { Decides result (Distinct text.now keys.now) }
 {
-    if keys.len() <= CHAINED {
-        distinct_by_chains(text, keys)
+    if keys.len() <= FEW {
+        distinct_by_chains::<FEW>(text, keys)
+    } else if keys.len() <= CHAINED {
+        distinct_by_chains::<CHAINED>(text, keys)
     } else {
         distinct_by_pairs(text, keys)
     }
