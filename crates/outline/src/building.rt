@@ -3,13 +3,12 @@
 ghost use Rattle.outline.specs.Building.{Nested};
 ghost use Rattle.outline.specs.Items.{branch_depths, heights_of, items_of, lists_of};
 ghost use Rattle.outline.specs.Nesting.{Stepwise, Within, highest};
-ghost use Rattle.std.specs.Prelude.{◌≡◌, [], IfOk, replicate, reverse, slice_index};
+ghost use Rattle.std.specs.Prelude.{◌≡◌, [], IfOk, OnOk, replicate, reverse, slice_index};
 
 use crate::entries::Entry;
 use crate::items::{Branch, Item};
 use crate::lines::LEVELS;
 use std::alloc::{AllocError, Global};
-use std::mem;
 
 // The branches of some entries, each a leaf.
 pub(crate) fn leaves(heap: Global, items: Vec<Item>) -> Result<Vec<Branch>, AllocError>
@@ -32,14 +31,15 @@ fn levels(heap: Global) -> Result<Vec<Vec<Entry>>, AllocError>
     (0..LEVELS + 1).map(|_| Vec::new(heap)).collect(heap)
 }
 
-// Takes what is on a list, the last first.
-fn taken(heap: Global, list: &mut Vec<Entry>) -> Vec<Entry>
-    ensures taken { result.items ≡ reverse list.old.items }
-    ensures left { list.new.items ≡ [] }
+// Takes what is on a list, the last first, into memory for just so many.
+fn taken(heap: Global, list: &mut Vec<Entry>) -> Result<Vec<Entry>, AllocError>
+    ensures taken { IfOk result (λ taken. taken.items ≡ reverse list.old.items) }
+    ensures left { OnOk result (list.new.items ≡ []) }
 {
-    let mut taken = mem::replace(list, Vec::new(heap));
+    let mut taken = Vec::from_slice(heap, list)?;
     taken.reverse();
-    taken
+    list.clear();
+    Ok(taken)
 }
 
 // How high an entry is; 0 past the end.
@@ -71,12 +71,12 @@ pub(crate) fn nest(heap: Global, branches: &mut [Branch]) -> Result<Vec<Entry>, 
     let mut free = levels(heap)?;
     for i in (0..branches.len()).rev() {
         let depth = branches[i].item.depth;
-        let children = taken(heap, &mut free[depth + 1]);
+        let children = taken(heap, &mut free[depth + 1])?;
         let height = highest(branches, &children) + 1;
         let branch = &mut branches[i];
         branch.height = height;
         branch.children = children;
         free[depth].push(Entry { number: i })?;
     }
-    Ok(taken(heap, &mut free[0]))
+    taken(heap, &mut free[0])
 }

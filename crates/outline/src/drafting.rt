@@ -2,12 +2,13 @@
 ghost use Rattle.std.specs.Prelude.{◌≡◌, ◌<◌, ◌≤◌, [], IfOk, MatchResult, vec_len};
 ghost use Rattle.outline.specs.Drafts.{Added, Denied, Finished, Grown, Longer, depths_in, judged};
 ghost use Rattle.outline.specs.Nesting.{most_after};
+ghost use Rattle.outline.specs.Reading.{text_of};
 
 use crate::building::{leaves, nest};
 use crate::drafts::Draft;
 use crate::faults::{Cause, OutlineFault};
 use crate::items::Item;
-use crate::lines::{depth, text};
+use crate::lines::{depth_with, text};
 use crate::outlines::Outline;
 use std::alloc::{AllocError, Global};
 
@@ -33,11 +34,12 @@ impl Draft {
         self.items.last().map_or(0, |item| item.depth + 1)
     }
 
-    // How deep the entry of the next line is, or why the line is refused.
-    fn judge(&self, line: &str) -> Result<Option<usize>, Cause>
+    // How deep the entry of the next line is, or why the line is refused, where this is its text.
+    fn judge(&self, line: &str, text: &str) -> Result<Option<usize>, Cause>
+        requires { text.now ≡ text_of line.now }
         ensures { result ≡ judged self.now line.now }
     {
-        match depth(line, self.most())? {
+        match depth_with(line, text, self.most())? {
             Some(_) if self.items.len() >= ENTRIES => Err(Cause::Full),
             found => Ok(found),
         }
@@ -62,8 +64,9 @@ impl Draft {
     fn grow(self, line: &str) -> Result<Draft, Cause>
         ensures { MatchResult result (λ d. Grown (judged self line.now) self line.now d × (d.lines ≡ self.lines)) (λ cause. Denied (judged self line.now) cause) }
     {
-        match self.judge(line)? {
-            Some(depth) => Ok(self.push(depth, text(line))?),
+        let text = text(line);
+        match self.judge(line, text)? {
+            Some(depth) => Ok(self.push(depth, text)?),
             None => Ok(self),
         }
     }

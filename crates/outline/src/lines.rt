@@ -21,17 +21,17 @@ pub fn text(line: &str) -> &str
     line.trim_start_matches(' ').trim_end_matches([' ', '\r'])
 }
 
-/// How deep the entry of a line is, or none for a line without text. It is refused for a tab or an odd number
-/// of spaces in its indent, then where it is over `most` levels deep, then where it is below level 64.
-pub fn depth(line: &str, most: usize) -> Result<Option<usize>, Cause>
+// How deep the entry of a line with this text is, or none where the text is empty.
+pub(crate) fn depth_with(line: &str, text: &str, most: usize) -> Result<Option<usize>, Cause>
+    requires { text.now ≡ text_of line.now }
     ensures { result ≡ reading line.now most }
 {
-    let text = text(line);
+    if text.is_empty() {
+        return Ok(None);
+    }
     let spaces = indent(line);
     let depth = spaces / 2;
-    if text.is_empty() {
-        Ok(None)
-    } else if text.starts_with('\t') {
+    if text.starts_with('\t') {
         Err(Cause::Tab)
     } else if spaces % 2 == 1 {
         Err(Cause::Odd { spaces })
@@ -45,4 +45,12 @@ pub fn depth(line: &str, most: usize) -> Result<Option<usize>, Cause>
     } else {
         Ok(Some(depth))
     }
+}
+
+/// How deep the entry of a line is, or none for a line without text. It is refused for a tab or an odd number
+/// of spaces in its indent, then where it is over `most` levels deep, then where it is below level 64.
+pub fn depth(line: &str, most: usize) -> Result<Option<usize>, Cause>
+    ensures { result ≡ reading line.now most }
+{
+    depth_with(line, text(line), most)
 }
