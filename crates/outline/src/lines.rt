@@ -1,6 +1,6 @@
 //! What one line of an outline says: its indent, its text, and how deep its entry is.
-ghost use Rattle.std.specs.Prelude.{◌≡◌};
-ghost use Rattle.outline.specs.Reading.{reading, spaces, text_of};
+ghost use Rattle.std.specs.Prelude.{◌≡◌, ◌<◌, ◌≤◌, length, slice_index};
+ghost use Rattle.outline.specs.Reading.{reading, spaces, text_end, text_of};
 
 use crate::faults::Cause;
 
@@ -14,11 +14,25 @@ fn indent(line: &str) -> usize
     line.len() - line.trim_start_matches(' ').len()
 }
 
+// Where the text of a line ends: at the spaces and carriage returns that close it.
+fn end_of_text(line: &[u8]) -> usize
+    ensures value { result ≡ text_end line.now }
+    ensures within { result ≤ length line.now }
+    ensures closes { result < length line.now → slice_index line.now result < 128 }
+{
+    let mut kept = line;
+    while let [rest @ .., b' ' | b'\r'] = kept {
+        kept = rest;
+    }
+    kept.len()
+}
+
 /// The text of a line: what stands after the indent, without the spaces and carriage returns at its end.
 pub fn text(line: &str) -> &str
     ensures { result.now ≡ text_of line.now }
 {
-    line.trim_start_matches(' ').trim_end_matches([' ', '\r'])
+    let rest = line.trim_start_matches(' ');
+    &rest[..end_of_text(rest.as_bytes())]
 }
 
 // How deep the entry of a line with this text is, or none where the text is empty.
